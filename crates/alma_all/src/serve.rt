@@ -6,7 +6,7 @@ ghost use Rattle.alma_ir.specs.View.{program_of};
 ghost use Rattle.alma_plan.specs.Course.{Follows};
 ghost use Rattle.alma_driver_words.specs.Words.{texts};
 ghost use Rattle.alma_resolved.specs.Room.{HasRoom};
-ghost use Rattle.alma_all.specs.All.{program as program_name, all_sense, all_plan, file_plan, list_plan, with_options, with_steps};
+ghost use Rattle.alma_all.specs.All.{program as program_name, all_sense, all_plan, file_plan, list_plan, with_options};
 ghost use Rattle.alma_all.specs.Ends.{all_end, file_of};
 
 use crate::end::AllEnd;

@@ -7,7 +7,7 @@ use Rattle.std.specs.Io.KnownBytes.{Appends}
 use Rattle.alma_io.specs.Fronts.{AppendsFront}
 use Rattle.alma_io.specs.Sides.{SinkSide}
 use Rattle.alma_io.proofs.Known.{appends_none, appends_trans}
-use Rattle.alma_plan.proofs.PartLemmas.{front_after}
+use Rattle.alma_io.proofs.PartLemmas.{front_after}
 use Rattle.alma_back.specs.declared.script.Line as read
 use Rattle.alma_back.specs.Inner.{line_of, lines_of}
 use Rattle.alma_back.specs.Session.{ahead, after_line, line_text, lines_text}

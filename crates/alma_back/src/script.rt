@@ -1,6 +1,6 @@
 // The lines of a script.
 ghost use Rattle.std.specs.Prelude.{◌≡◌, ◌≤◌, ◌*◌, ◌+◌, Ok, Some, All, length, option_map, IfOk, IfErr, IfSome, MatchOption};
-ghost use Rattle.alma_back.specs.Script.{texts_in, count_in, name_in, line_with as line_with_of, line_in, lines_in, greatest_steps};
+ghost use Rattle.alma_back.specs.Script.{texts_in, count_in, name_in, line_with as line_with_of, line_in, lines_in};
 ghost use Rattle.alma_back.specs.Inner.{line_of, lines_of, none_ended, one_ended, IsShort, IsUnread};
 
 use crate::end::BackEnd;

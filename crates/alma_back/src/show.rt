@@ -1,5 +1,5 @@
 // What the lines of a script show.
-ghost use Rattle.std.specs.Prelude.{◌≡◌, ◌≤◌, ◌<◌, ◌+◌, ◌*◌, ◌^◌, ◌++◌, length, All, OnOk, OnErr};
+ghost use Rattle.std.specs.Prelude.{◌≡◌, ◌≤◌, ◌<◌, ◌+◌, ◌*◌, ◌^◌, length, All, OnOk, OnErr};
 ghost use Rattle.std.specs.Io.KnownBytes.{Appends};
 ghost use Rattle.alma_io.specs.Fronts.{AppendsFront};
 ghost use Rattle.alma_back.specs.Inner.{line_of, lines_of, IsShort, StopsAt};

@@ -1,5 +1,5 @@
 // A walk, when both files are there.
-ghost use Rattle.std.specs.Prelude.{◌≡◌, ◌≤◌, ◌<◌, ◌*◌, ◌^◌, [], All, length};
+ghost use Rattle.std.specs.Prelude.{◌≤◌, ◌<◌, ◌*◌, ◌^◌, All, length};
 ghost use Rattle.alma_base.specs.Limits.{input_limit};
 ghost use Rattle.alma_code.specs.Reads.{code_reads};
 ghost use Rattle.alma_io.specs.Sides.{FilesSide};

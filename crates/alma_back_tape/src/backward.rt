@@ -1,5 +1,5 @@
 // How changes are taken back, without memory.
-ghost use Rattle.std.specs.Prelude.{true, false, ◌≡◌, [], ◌∷◌, OnErr, OnOk, if◌then◌else◌};
+ghost use Rattle.std.specs.Prelude.{true, false, ◌≡◌, [], ◌∷◌, if◌then◌else◌};
 ghost use Rattle.alma_back_tape.specs.Inner.Reel.{scene_of};
 ghost use Rattle.alma_back_tape.specs.Inner.Past.{IsOpen, IsTape, reel_of, scenes, scenes_open};
 ghost use Rattle.alma_back_tape.specs.declared.change.Change.TheVariants.{Dropped, Finished, Kept, Noted, Pushed, Undone};

@@ -1,5 +1,5 @@
 // The frames from before some notes, known by what of the frames of now was other then.
-ghost use Rattle.std.specs.Prelude.{◌≡◌, ◌+◌, ◌<◌, ◌≤◌, ◌∷◌, [], ◌++◌, length, drop, true, IfOk, slice_index_or};
+ghost use Rattle.std.specs.Prelude.{◌≡◌, ◌+◌, ◌<◌, ◌≤◌, ◌∷◌, [], ◌++◌, length, drop, IfOk, slice_index_or};
 ghost use Rattle.alma_base.specs.Limits.{frame_limit};
 ghost use Rattle.alma_code.specs.Picture.{no_frame, frames_with_cell, without_last};
 ghost use Rattle.alma_code.specs.Carries.{diffs, diff_at, slot_diffs};

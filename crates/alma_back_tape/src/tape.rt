@@ -1,5 +1,5 @@
 // The memory that goes back, as a machine sees it.
-ghost use Rattle.std.specs.Prelude.{true, false, ◌≡◌, ◌≤◌, [], ◌∷◌, is_ok, IfOk, IsFalse, if◌then◌else◌};
+ghost use Rattle.std.specs.Prelude.{false, ◌≡◌, ◌≤◌, [], ◌∷◌, is_ok, IfOk, IsFalse, if◌then◌else◌};
 ghost use Rattle.alma_base.specs.Limits.{cell_limit};
 ghost use Rattle.alma_code.specs.Layout.{IsHead, start_frame};
 

@@ -1,5 +1,5 @@
 // Sums and products behind all their operands.
-ghost use Rattle.std.specs.Prelude.{◌≡◌, ℕ, List, Option, None, Some};
+ghost use Rattle.std.specs.Prelude.{◌≡◌, ℕ, Option, None, Some};
 ghost use Rattle.alma_rules.specs.Judgement.{Judgement, of_value, both, both_of};
 ghost use Rattle.alma_rules.specs.View.{terms_of, factors_of};
 ghost use Rattle.alma_rules.specs.Answers.{Answers};

@@ -1,16 +1,16 @@
 // A node whose last part has been judged: its rules, and what it stands for.
 #![tactic(auto, using(alma_rules::proofs::Judging::judging, std::proofs::lemmas::Grind::common_steps))]
 
-ghost use Rattle.std.specs.Prelude.{◌≡◌, ℕ, List, Option, None, Some, option_map, IfOk};
+ghost use Rattle.std.specs.Prelude.{◌≡◌, ℕ, Option, None, Some, option_map};
 ghost use Rattle.alma_ir.specs.Tree as ir;
 ghost use Rattle.alma_ir.specs.View.{arg_of};
-ghost use Rattle.alma_rules.specs.Judgement.{Judgement, fine, of_value, both, both_of, with, with_some, at_node};
+ghost use Rattle.alma_rules.specs.Judgement.{Judgement, fine, of_value, both, with, with_some, at_node};
 ghost use Rattle.alma_rules.specs.Scene.{literal_at, number_at};
 ghost use Rattle.alma_rules.specs.Answers.{Answers};
 ghost use Rattle.alma_rules.specs.Parts as parts;
 ghost use Rattle.alma_rules.specs.ExprRules as rules;
 ghost use Rattle.alma_rules.specs.Nodes as nodes;
-ghost use Rattle.alma_check_rules.specs.Views.{scene_of, typing_in, typing_of, denoted_in, denoted_of, headings_in, found_view, use_view, operand_view, operands_in, operands_of, callee_in, callee_of, argument_view, formal_view, join_view, args_of, stmts_of, somewhere};
+ghost use Rattle.alma_check_rules.specs.Views.{scene_of, typing_in, typing_of, denoted_in, denoted_of, headings_in, found_view, use_view, operand_view, callee_in, callee_of, argument_view, formal_view, args_of, stmts_of, somewhere};
 
 use alma_check_build_expr::{
     argument, as_callee, as_located, as_typed, call, character, chr, integer, known, negate, ord,

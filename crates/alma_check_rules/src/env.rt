@@ -1,5 +1,5 @@
 // Where a phrase stands, and what the names there stand for.
-ghost use Rattle.std.specs.Prelude.{◌≡◌, Option, None, Some, slice_get, option_map, option_and_then, not, is_some, nat_eq, pos, IfOk, IfSome};
+ghost use Rattle.std.specs.Prelude.{◌≡◌, Option, None, Some, slice_get, option_map, option_and_then, not, is_some, nat_eq, pos, IfSome};
 ghost use Rattle.alma_names.specs.Shapes.{base_at, cells_at, range_at, field_at};
 ghost use Rattle.std.specs.Str.Parse.{digits_value};
 ghost use Rattle.alma_rules.specs.Scene.{text_at, literal_at, number_at, range, heading_of, row_of, is_record_in};

@@ -1,5 +1,5 @@
 // The labels of a CASE, which share no value with each other where none breaks a rule.
-ghost use Rattle.std.specs.Prelude.{◌≡◌, List, [], ◌∷◌, ◌++◌, length, take, OnOk, OnErr};
+ghost use Rattle.std.specs.Prelude.{◌≡◌, List, [], ◌∷◌, ◌++◌, length, take, OnOk};
 ghost use Rattle.alma_rules.specs.StmtRules as rules;
 ghost use Rattle.alma_check_rules.specs.declared.part.Span.{Span as PlainSpan};
 ghost use Rattle.alma_check_rules.specs.Views.{span_view, spans_view};

@@ -1,6 +1,6 @@
 // How far spans reach, by where they begin.
-ghost use Rattle.std.specs.Prelude.{◌≡◌, ◌≤ℤ◌, ◌<ℤ◌, IfSome, OnOk, OnErr, true, false, Some, None};
-ghost use Rattle.alma_check_rules.specs.Reach.{end_at, Rises, RisesBut, Covers, Keeps, IsEndUpTo, IsReached, IsNextWithin, IsTopped};
+ghost use Rattle.std.specs.Prelude.{OnOk, false, Some, None};
+ghost use Rattle.alma_check_rules.specs.Reach.{Rises, RisesBut, Covers, Keeps, IsEndUpTo, IsReached, IsNextWithin, IsTopped};
 
 use std::alloc::AllocError;
 use std::collections::BTreeMap;

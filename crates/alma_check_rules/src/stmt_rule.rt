@@ -1,5 +1,5 @@
 // The rules of one node of a statement, in the order of the faults.
-ghost use Rattle.std.specs.Prelude.{◌≡◌, ◌&&◌, true, false, Option, None, Some, not, option_map, length};
+ghost use Rattle.std.specs.Prelude.{◌≡◌, ◌&&◌, true, false, Option, None, Some, option_map};
 ghost use Rattle.alma_base.specs.Numbers as numbers;
 ghost use Rattle.alma_rules.specs.Judgement.{holds, both_of};
 ghost use Rattle.alma_rules.specs.Answers.{Passes};

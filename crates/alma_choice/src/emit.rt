@@ -1,11 +1,11 @@
 // Instructions with their lines, slots, and jumps that are aimed late.
-ghost use Rattle.std.specs.Prelude.{◌≡◌, ℕ, ◌+◌, List, [], ◌∷◌, ◌++◌, ◌≤◌, length, IfOk, OnOk, OnErr};
+ghost use Rattle.std.specs.Prelude.{◌≡◌, ◌+◌, [], ◌∷◌, ◌≤◌, length, IfOk, OnOk, OnErr};
 ghost use Rattle.alma_code.specs.declared.instr.Instr.TheVariants as instr;
 ghost use Rattle.alma_code.specs.declared.cell.SlotKind.TheVariants as slot;
 ghost use Rattle.alma_lower_templates.specs.LineInstr.{own};
 ghost use Rattle.alma_lower_templates.specs.Pieces as pieces;
 ghost use Rattle.alma_base.specs.Limits.{instr_limit};
-ghost use Rattle.alma_choice.specs.Emitted.{made, with_target, aim_jump, Appends, Aims, ChangesLast, EndsEach, EndsForall, IsAsBefore};
+ghost use Rattle.alma_choice.specs.Emitted.{made, with_target, Appends, Aims, ChangesLast, EndsEach, EndsForall, IsAsBefore};
 ghost use Rattle.alma_choice.specs.Emitted.{HasSlotRoom};
 
 use alma_base::{INSTR_LIMIT, NoMemory, SLOT_LIMIT};

@@ -1,6 +1,7 @@
 // The head of a routine, as the table of a code or the view of an object gives it.
 ghost use Rattle.std.specs.Prelude.{◌≡◌, ◌<◌, length, Some, slice_get};
 ghost use Rattle.alma_code.specs.Head.{PlainHead};
+ghost use Rattle.alma_code.specs.Layout.{param_slots};
 
 use crate::cell::SlotKind;
 
@@ -24,6 +25,19 @@ pub enum ParamKind {
 pub struct CodeParam {
     pub kind: ParamKind,
     pub cells: u32,
+}
+
+impl CodeParam {
+    /// How many slots its argument takes.
+    pub fn slots(self) -> u32
+        ensures { result ≡ param_slots self.kind self.cells }
+    {
+        match self.kind {
+            ParamKind::Value | ParamKind::Place | ParamKind::Link => 1,
+            ParamKind::Mix => 2,
+            ParamKind::Cells => self.cells,
+        }
+    }
 }
 
 /// Slots of one kind: from the end of the run before, or from 0, up to and without `end`.

@@ -1,5 +1,5 @@
 // Lines of a text: words with a space between two.
-ghost use Rattle.std.specs.Prelude.{◌≡◌, ◌∷◌, ◌++◌, [], map, flat_map, decimal, OnOk};
+ghost use Rattle.std.specs.Prelude.{◌≡◌, ◌∷◌, ◌++◌, map, flat_map, decimal, OnOk};
 ghost use Rattle.alma_code.specs.ListText.{text_line};
 ghost use Rattle.alma_code_list.specs.Spaces.{behind_space};
 

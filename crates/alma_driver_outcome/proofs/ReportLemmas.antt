@@ -1,9 +1,7 @@
 -- Parts that are written one after another.
-use Rattle.std.proofs.Common.{◌≡◌, ◌<◌, ◌+◌, ℕ, zero, suc, List, [], ◌++◌, refl, length, take, drop, get_or, ap, sym, ◌∙◌, add-one}
-use Rattle.std.proofs.Common.{append_assoc, drop-cons}
-use Rattle.std.proofs.lemmas.List.{take-append-drop}
-use Rattle.std.proofs.lemmas.List.Concat.{flat_map-append}
-use Rattle.std.specs.Prelude.{Option, None, Some, Result, Ok, Err, OnOk, OnErr, flat_map, codes, decimal}
+use Rattle.std.proofs.Common.{◌≡◌, ◌+◌, ℕ, zero, suc, List, [], ◌++◌, refl, ap, sym, ◌∙◌}
+use Rattle.std.proofs.Common.{append_assoc}
+use Rattle.std.specs.Prelude.{Option, None, Some, Result, Ok, Err, OnOk, OnErr, codes, decimal}
 use Rattle.alma_base.specs.Fault.{run_fault_text}
 use Rattle.alma_base.specs.declared.fault.RunFault.{RunFault}
 use Rattle.alma_code.specs.Lines.{known_line}
@@ -11,30 +9,9 @@ use Rattle.alma_object_format.specs.declared.fault.ObjectFault.{ObjectFault}
 use Rattle.alma_object_format.specs.Fault.{object_fault_name, object_fault_number}
 use Rattle.alma_driver_outcome.specs.Ends.{line_text, fault_text, number_text, object_text}
 use Rattle.alma_driver_outcome.specs.Ends.{rule_line, counts_line}
-use Rattle.std.specs.Borrow.{Bor}
 use Rattle.std.specs.Io.KnownBytes.{Appends}
 use Rattle.alma_io.specs.Fronts.{AppendsFront}
 use Rattle.alma_io.proofs.Known.{appends_trans}
-
--- all parts, by those before one of them, that one, and those behind it
-pub parts_at : (parts : List (Bor (List ℕ))) (i : ℕ) (d : Bor (List ℕ)) → i < length parts
-    → flat_map (λ (part : Bor (List ℕ)). part.now) parts ≡ flat_map (λ (part : Bor (List ℕ)). part.now) (take i parts)
-    ++ ((get_or parts i d).now ++ flat_map (λ (part : Bor (List ℕ)). part.now) (drop (i + 1) parts))
-parts_at parts i d h =
-    let f = λ (part : Bor (List ℕ)). part.now in
-    ap (flat_map f) (sym (take-append-drop i parts)) ∙ flat_map-append f (take i parts) (drop i parts)
-    ∙ ap (λ z. flat_map f (take i parts) ++ flat_map f z) (drop-cons parts i d h)
-    ∙ ap (λ k. flat_map f (take i parts) ++ ((get_or parts i d).now ++ flat_map f (drop k parts))) (sym (add-one i))
-
--- bytes that are out, and then a prefix of the next, are a prefix of the whole
-pub front_after : (front bytes rest whole : List ℕ) (a b c : Option (List ℕ)) → whole ≡ front ++ (bytes ++ rest) → Appends a b front
-    → AppendsFront b c bytes → AppendsFront a c whole
-front_after front bytes rest whole a b c e h x = (
-  front ++ x.0,
-  x.1 ++ rest,
-  e ∙ ap (λ z. front ++ (z ++ rest)) x.2 ∙ ap (λ z. front ++ z) (append_assoc x.0 x.1 rest) ∙ sym (append_assoc front x.0 (x.1 ++ rest)),
-  appends_trans a b c front x.0 h x.3,
-)
 
 -- the parts of the text of a fault whose line is not known
 pub unknown_parts : (fault : RunFault) (line : ℕ) (front name end : List ℕ) → line ≡ 0 → front ≡ codes "alma: fault "

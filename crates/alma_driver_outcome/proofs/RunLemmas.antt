@@ -1,10 +1,9 @@
 -- What a run of compiled code comes to, step by step and by the meaning.
-use Rattle.std.proofs.Common.{◌≡◌, ◌≤◌, ◌∙◌, ℕ, zero, suc, List, [], inr, ap, sym, subst, refl, arith}
-use Rattle.std.specs.Prelude.{Bool, Option, None, Some, true, false, length}
+use Rattle.std.proofs.Common.{◌≡◌, ◌≤◌, ◌∙◌, ℕ, List, [], inr, ap, sym, subst, refl, arith}
+use Rattle.std.specs.Prelude.{Bool, Option, None, true, false, length}
 use Rattle.alma_base.specs.Limits.{size_limit, input_limit}
 use Rattle.alma_ir.specs.Tree.{Program}
 use Rattle.alma_code.specs.declared.step.End.TheVariants as ended
-use Rattle.alma_code.specs.Lines.{known_line}
 use Rattle.alma_code.specs.Machine.{Mode, Going, Failing, Ended, Stuck, State, start}
 use Rattle.alma_code.specs.Plain.{PlainCode}
 use Rattle.alma_code.specs.Reads.{code_reads}
@@ -104,16 +103,6 @@ pub goes_run : (code : PlainCode) (input : List ℕ) (old new : MachineView) (st
     (run_end answer (line_in code new.state) (counts_in stats new.state))
 goes_run code input old new steps stats answer a b e h =
     goes_fresh code input new steps stats answer a b (subst (λ (o : MachineView). HasRun o new steps answer a b) e h)
-
--- a line that is known
-pub line_known : (n line : ℕ) → Some line ≡ known_line n → line ≡ n
-line_known zero line e = absurd (cc e)
-line_known (suc n) line e = cc e
-
--- a line that is not known is 0
-pub line_unknown : (n : ℕ) → None ≡ known_line n → 0 ≡ n
-line_unknown zero e = refl
-line_unknown (suc n) e = absurd (cc e)
 
 -- ---- a run of code that implements a program
 

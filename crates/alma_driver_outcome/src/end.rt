@@ -1,7 +1,5 @@
 // The ends of a call: how they come from the answers of its parts, their statuses and their texts.
 ghost use Rattle.std.specs.Prelude.{◌≡◌};
-ghost use Rattle.alma_code.specs.Lines.{line_at};
-ghost use Rattle.alma_object.specs.View.{code_of_view};
 ghost use Rattle.alma_driver_outcome.specs.Ends.{status_of, counts_with, fixed_text, run_end, input_end, lower_end, words_end, fetch_end, store_end};
 
 use alma_base::{Place, RunFault};
@@ -10,7 +8,7 @@ use alma_driver_words::WordsError;
 use alma_io::{Fetch, ReadAll, StoreFault};
 use alma_lower::LowerError;
 use alma_machine::RunEnd;
-use alma_object::{ObjectFault, ObjectView};
+use alma_object::ObjectFault;
 use alma_source::SourceFault;
 
 /// What a run counted: the steps that it made, the choice entries that it pushed, and those that it popped.
@@ -115,16 +113,6 @@ pub fn end_of(run: RunEnd, line: u32, counts: Option<Counts>) -> End
         RunEnd::StepsOut => End::StepsOut(counts),
         RunEnd::WriteFault => End::WriteFault,
         RunEnd::Memory => End::Memory,
-    }
-}
-
-/// The line of an address; 0 where none is known.
-pub fn line_of(view: &ObjectView<'_>, at: u32) -> u32
-    ensures { result ≡ line_at (code_of_view view.now) at }
-{
-    match view.line_of(at) {
-        Some(line) => line,
-        None => 0,
     }
 }
 

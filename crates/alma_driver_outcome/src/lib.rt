@@ -6,6 +6,6 @@ pub mod laws;
 mod showing;
 mod writing;
 
-pub use end::{Counts, End, end_of, line_of};
+pub use end::{Counts, End, end_of};
 pub use showing::Showing;
-pub use writing::{report, write_parts};
+pub use writing::report;

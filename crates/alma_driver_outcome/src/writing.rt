@@ -1,5 +1,5 @@
 // What a call says on err at its end.
-ghost use Rattle.std.specs.Prelude.{◌++◌, codes, flat_map, OnOk, OnErr, Some};
+ghost use Rattle.std.specs.Prelude.{◌++◌, codes, OnOk, OnErr, Some};
 ghost use Rattle.std.specs.Io.KnownBytes.{Appends};
 ghost use Rattle.alma_io.specs.Causes.{HasCause};
 ghost use Rattle.alma_io.specs.Fronts.{AppendsFront};
@@ -10,24 +10,10 @@ ghost use Rattle.alma_source.specs.Texts.{refusal_line, refusal_text};
 use crate::end::{Counts, End};
 use alma_base::{Place, RunFault, Status};
 use alma_code::VerifyFault;
-use alma_io::{Sink, WriteFault, write_all};
+use alma_io::{Sink, WriteFault, write_parts};
 use alma_object::ObjectFault;
 use alma_source::SourceFault;
 use itoa::Buffer;
-
-/// Writes parts one after another.
-pub fn write_parts<E: Sink>(err: &mut E, parts: &[&[u8]]) -> Result<(), WriteFault>
-    ensures ok { OnOk result (Appends (E.side err.old).written (E.side err.new).written
-        (flat_map (λ part. part.now) parts.now)) }
-    ensures front { OnErr result (AppendsFront (E.side err.old).written (E.side err.new).written
-        (flat_map (λ part. part.now) parts.now)) }
-    ensures cause { HasCause (E.side err.old).faults (E.side err.new).faults result }
-{
-    for part in parts {
-        write_all(err, part)?;
-    }
-    Ok(())
-}
 
 // Writes a line of two parts.
 fn write_line<E: Sink>(err: &mut E, front: &[u8], back: &[u8]) -> Result<(), WriteFault>

@@ -11,7 +11,7 @@ ghost use Rattle.alma_driver_outcome.specs.Course.{Goes, Runs};
 
 use crate::trace::trace_on;
 use alma_base::{INPUT_LIMIT, NoMemory};
-use alma_driver_outcome::{Counts, End, Showing, end_of, line_of};
+use alma_driver_outcome::{Counts, End, Showing, end_of};
 use alma_io::{Sink, Source, read_all};
 use alma_machine::Machine;
 use alma_verify::Verified;
@@ -50,7 +50,7 @@ fn print_on<O: Sink>(
     match Machine::new(alloc, code, input) {
         Ok(mut machine) => {
             let end = machine.run(steps, out);
-            let line = line_of(machine.view(), machine.at());
+            let line = machine.view().line_at(machine.at());
             end_of(end, line, counts_of(&machine, stats))
         }
         Err(NoMemory) => End::Memory,

@@ -13,9 +13,9 @@ ghost use Rattle.alma_driver_outcome.specs.Course.{Goes};
 
 use crate::source::run_source;
 use alma_base::NoMemory;
-use alma_driver_outcome::{End, Showing, write_parts};
+use alma_driver_outcome::{End, Showing};
 use alma_driver_words::{DEFAULT_STEPS, sample_source};
-use alma_io::{MemSink, MemSource, Sink, WriteFault};
+use alma_io::{MemSink, MemSource, Sink, WriteFault, write_parts};
 use itoa::Buffer;
 use std::alloc::Global;
 

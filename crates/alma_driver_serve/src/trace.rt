@@ -9,7 +9,7 @@ ghost use Rattle.alma_driver_outcome.specs.Course.{Goes};
 ghost use Rattle.alma_trace.specs.Resolved.{IsResolved};
 
 use alma_base::NoMemory;
-use alma_driver_outcome::{End, end_of, line_of};
+use alma_driver_outcome::{End, end_of};
 use alma_io::Sink;
 use alma_machine::Machine;
 use alma_trace::{Watch, trace, watches};
@@ -48,7 +48,7 @@ fn trace_watched<O: Sink>(
     match Machine::new(alloc, code, input) {
         Ok(mut machine) => {
             let end = trace(alloc, &mut machine, steps, watched, out);
-            let line = line_of(machine.view(), machine.at());
+            let line = machine.view().line_at(machine.at());
             end_of(end, line, None)
         }
         Err(NoMemory) => End::Memory,

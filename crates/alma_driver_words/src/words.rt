@@ -1,5 +1,5 @@
 // The words of a call.
-ghost use Rattle.std.specs.Prelude.{◌≡◌, ◌∷◌, [], ◌↔◌, codes, IsTrue, MatchOption};
+ghost use Rattle.std.specs.Prelude.{◌≡◌, ◌∷◌, [], codes, MatchOption};
 ghost use Rattle.alma_driver_words.specs.Words.{Reads, texts, file_of, IsFileName, is_file_name as is_file_name_of};
 ghost use Rattle.alma_driver_words.specs.Inner.Names.{LacksName, ReadsOne};
 

@@ -20,7 +20,7 @@ use Rattle.alma_ir.specs.Tree.{Stmt, TestStmt, Assign, CopyCells, If, While, Rep
 use Rattle.alma_ir.specs.Tree.{Read, WriteExpr, WriteText, WriteLine}
 use Rattle.alma_ir.specs.Checked.{text_bytes}
 use Rattle.alma_ir.specs.Lines.{stmt_count}
-use Rattle.alma_ir.specs.Measures.{own, weight, amount, parts}
+use Rattle.alma_ir.specs.Inner.Measures.{own, weight, amount, parts}
 use Rattle.alma_ir.specs.Phrases.{Phrase, StmtPhrase, TestPhrase, ExprPhrase, ArgPhrase, DesigPhrase, SelPhrase}
 use Rattle.alma_ir.specs.declared.inside.Measure.{Measure}
 use Rattle.alma_ir.specs.declared.inside.Measure.TheVariants as measure

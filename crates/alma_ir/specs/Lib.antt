@@ -4,4 +4,4 @@ pub mod Count
 pub mod Phrases
 pub mod Lines
 pub mod Checked
-pub mod Measures
+pub mod Inner

@@ -6,7 +6,7 @@ ghost use Rattle.alma_ir.specs.View.{stmts_list, stmt_of, arms_list, cases_list,
 ghost use Rattle.alma_ir.specs.Checked.{text_bytes};
 ghost use Rattle.alma_ir.specs.Count.{saturate};
 ghost use Rattle.alma_ir.specs.Lines.{stmt_count};
-ghost use Rattle.alma_ir.specs.Measures.{own, amount, parts};
+ghost use Rattle.alma_ir.specs.Inner.Measures.{own, amount, parts};
 ghost use Rattle.alma_ir.specs.Phrases.{stmts_phrases, arms_phrases, cases_phrases, branches_phrases, loop_phrases, tests_phrases, test_phrases, expr_phrases, links_phrases, args_phrases, arg_phrases, desig_phrases, sel_phrases};
 
 use crate::phrase::{Arg, Arm, Branch, CaseArm, Desig, Expr, Link, Loop, Sel, Stmt, Test};

@@ -1,7 +1,6 @@
 // Which routines of a module are imports.
-ghost use Rattle.std.specs.Prelude.{◌≡◌, ◌<◌, false, length, map, get_or, nat_eq, not, ◌&&◌, sum_by, IfOk};
-ghost use Rattle.std.specs.List.{list_any};
-ghost use Rattle.alma_ir.specs.Checked.{slots_of_kind, param_slots};
+ghost use Rattle.std.specs.Prelude.{◌≡◌, ◌<◌, false, map, nat_eq, not, ◌&&◌, sum_by, IfOk};
+ghost use Rattle.alma_ir.specs.Checked.{param_slots};
 ghost use Rattle.alma_ir.specs.View.{program_of, routine_of, stmts_list};
 ghost use Rattle.alma_join.specs.Joined.{is_empty};
 ghost use Rattle.alma_join.specs.Bare.{MarksOuter, MarksBare};

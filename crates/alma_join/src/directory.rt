@@ -1,5 +1,5 @@
 // The procedures of level 1 that stay, by name.
-ghost use Rattle.std.specs.Prelude.{◌≡◌, ℕ, ◌+◌, ◌≤◌, List, [], ◌∷◌, ◌++◌, length, map, Option, None, Some, Vec, IfOk, OnOk};
+ghost use Rattle.std.specs.Prelude.{◌≡◌, ℕ, ◌+◌, ◌≤◌, List, [], ◌∷◌, ◌++◌, length, map, None, Some, Vec, IfOk, OnOk};
 ghost use Rattle.std.specs.Global as heap;
 ghost use Rattle.indexmap.specs.IndexMap.{get};
 ghost use Rattle.alma_ir.specs.View.{program_of, routine_of};

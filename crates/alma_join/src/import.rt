@@ -1,7 +1,7 @@
 // The new numbers of all routines, and the faults of imports.
-ghost use Rattle.std.specs.Prelude.{◌≡◌, true, false, ◌+◌, ◌<◌, ◌≤◌, List, [], length, map, None, IfOk, IfErr, OnOk};
+ghost use Rattle.std.specs.Prelude.{◌≡◌, true, false, ◌+◌, ◌<◌, ◌≤◌, List, length, map, None, IfOk, IfErr, OnOk};
 ghost use Rattle.alma_ir.specs.View.{program_of, routine_of};
-ghost use Rattle.alma_join.specs.Joined.{Kept, kept_in, kept_of, matches, match_fault, import_fault, greatest_units};
+ghost use Rattle.alma_join.specs.Joined.{Kept, kept_in, kept_of, matches, import_fault, greatest_units};
 ghost use Rattle.alma_join.specs.Directory.{Holds};
 ghost use Rattle.alma_join.specs.Fault.{IsErrorOf};
 ghost use Rattle.alma_join.specs.Numbers.{Resolves, StandsAt, unit_fault, NumbersUnit, NumbersUnits, numbers_in};

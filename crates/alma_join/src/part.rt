@@ -1,9 +1,8 @@
 // The parts of a joined program, unit after unit.
-ghost use Rattle.std.specs.Prelude.{◌≡◌, ℕ, ◌+◌, ◌<◌, ◌≤◌, ◌++◌, length, map, IfOk, OnOk};
+ghost use Rattle.std.specs.Prelude.{◌≡◌, ℕ, ◌+◌, ◌<◌, ◌++◌, length, map, IfOk, OnOk};
 ghost use Rattle.std.specs.List.{AllByRecursion};
 ghost use Rattle.alma_copy.specs.Moved.{moved_global, moved_routine, moved_stmts};
 ghost use Rattle.alma_copy.specs.Numbers.{moves_of};
-ghost use Rattle.alma_ir.specs.Tree.{routine_at};
 ghost use Rattle.alma_ir.specs.View.{program_of, routine_of, global_of, stmts_list};
 ghost use Rattle.alma_join.specs.Joined.{kept_in, kept_of};
 ghost use Rattle.alma_join.specs.Numbers.{NumbersUnits, numbers_in};

@@ -1,7 +1,7 @@
 // One program of several modules.
-ghost use Rattle.std.specs.Prelude.{◌≡◌, ◌+◌, ◌<◌, ◌∷◌, length, map, None, IfOk, IfErr};
+ghost use Rattle.std.specs.Prelude.{◌≡◌, ◌<◌, length, map, None, IfOk, IfErr};
 ghost use Rattle.alma_ir.specs.Checked.{IsChecked};
-ghost use Rattle.alma_ir.specs.View.{program_of, routine_of, global_of, stmts_list};
+ghost use Rattle.alma_ir.specs.View.{program_of};
 ghost use Rattle.alma_join.specs.Joined.{AreUnits, joined_program, join_fault};
 ghost use Rattle.alma_join.specs.Fault.{IsJoinError};
 ghost use Rattle.alma_join.specs.Parts.{with_body};

@@ -1,5 +1,5 @@
 // The procedure that writes the line of the store.
-ghost use Rattle.std.specs.Prelude.{◌≡◌, ◌++◌, ℕ, suc, IfOk, map, codes, [], ◌∷◌};
+ghost use Rattle.std.specs.Prelude.{◌≡◌, ◌++◌, suc, IfOk, map, codes, [], ◌∷◌};
 ghost use Rattle.alma_ir.specs.Tree.{Stmts, more_arms, no_arms, a_desig, no_sels, Value, WriteText};
 ghost use Rattle.alma_ir.specs.declared.phrase.Root.TheVariants as root;
 ghost use Rattle.alma_ir.specs.View.{routine_of, global_of, stmts_list, stmt_of, arms_list, loop_of, expr_of, desig_of};

@@ -1,5 +1,5 @@
 -- Stretches that the checker lets pass fit the code of the routine.
-use Rattle.std.proofs.Common.{◌≡◌, ℕ, suc, ◌<◌, ◌≤◌, List, length, get_or, refl, sym, arith, ap, subst, ◌∙◌}
+use Rattle.std.proofs.Common.{◌≡◌, ℕ, suc, ◌<◌, ◌≤◌, List, length, get_or, refl, sym, arith, ap, subst}
 use Rattle.std.specs.Prelude.{◌⊎◌, true, false, not, ◌&&◌, ◌||◌, nat_lt, nat_le, Option, Some, None}
 use Rattle.std.proofs.lemmas.Bool.{cases_eq, cases_lt, and_parts, and_from, not-true, not_from_false, ltb-true, leb-true, lt-ltb, le-leb}
 use Rattle.std.proofs.lemmas.Bool.{eqb-true, or_cases, false_from_ne_true, both_ways}

@@ -1,32 +1,21 @@
 // Whether the first slots of a routine are own ones.
 ghost use Rattle.std.specs.Prelude.{◌≡◌, ◌<◌, ◌≤◌, ◌^◌, true, length, sum_by};
-ghost use Rattle.alma_code.specs.Layout.{param_slots as param_slots_spec};
+ghost use Rattle.alma_code.specs.Layout.{param_slots};
 ghost use Rattle.alma_code.specs.Plain.{code_of};
 ghost use Rattle.alma_lower_slots.specs.Inner.Checks.{KeepsNumber, KeepsOwn};
 ghost use Rattle.alma_lower_slots.specs.Sharing.{params_slots};
 
 use crate::matters::{is_kept, stretch_of};
 use crate::stretch::Stretch;
-use alma_code::{Code, CodeParam, ParamKind};
-
-// How many slots a parameter has.
-fn param_slots(param: CodeParam) -> u32
-    ensures { result ≡ param_slots_spec param.kind param.cells }
-{
-    match param.kind {
-        ParamKind::Value | ParamKind::Place | ParamKind::Link => 1,
-        ParamKind::Mix => 2,
-        ParamKind::Cells => param.cells,
-    }
-}
+use alma_code::{Code, CodeParam};
 
 // Whether the slots of parameters are not more than the own ones.
 fn are_own(params: &[CodeParam], own: u32) -> bool
-    ensures { result ≡ true → sum_by (λ p. param_slots_spec p.kind p.cells) params.now ≤ own }
+    ensures { result ≡ true → sum_by (λ p. param_slots p.kind p.cells) params.now ≤ own }
 {
     let mut slots: u64 = 0;
     for param in params {
-        slots += u64::from(param_slots(*param));
+        slots += u64::from(param.slots());
         if slots > u64::from(own) {
             return false;
         }

@@ -1,5 +1,4 @@
 // Laws of renamed slots, each as the contract of a function that does nothing.
-ghost use Rattle.std.specs.Prelude.{◌≡◌};
 ghost use Rattle.alma_code.specs.Plain.{PlainCode};
 ghost use Rattle.alma_code.specs.Rules.{IsSound};
 ghost use Rattle.alma_lower_slots.specs.Sharing.{Sharing, Shares, Renames};

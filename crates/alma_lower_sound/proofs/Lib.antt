@@ -2,7 +2,7 @@ pub mod WithLines
 pub mod Needs
 pub mod Facts
 pub mod Pieces
-pub mod Handover
+pub mod Handed
 pub mod Roots
 pub mod Values
 pub mod Phrases

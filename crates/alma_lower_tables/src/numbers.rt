@@ -1,7 +1,7 @@
 // The ranges and the texts of a code, each with its number.
 ghost use Rattle.std.specs.Prelude.{◌≡◌, ◌<◌, [], map, slice_get, Some, IfOk, OnOk};
 ghost use Rattle.alma_lower_templates.specs.Tables.{range_number, text_number, same_range, same_text};
-ghost use Rattle.alma_lower_tables.specs.Numbers.{range_of, text_of, tables_of, Extends, with_entry};
+ghost use Rattle.alma_lower_tables.specs.Numbers.{text_of, tables_of, Extends, with_entry};
 
 use alma_base::{NoMemory, RECORD_LIMIT, Range};
 use indexmap::IndexSet;

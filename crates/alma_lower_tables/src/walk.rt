@@ -1,5 +1,5 @@
 // The walk over all phrases of statements.
-ghost use Rattle.std.specs.Prelude.{◌≡◌, OnOk};
+ghost use Rattle.std.specs.Prelude.{OnOk};
 ghost use Rattle.alma_ir.specs.View.{stmts_list, stmt_of, arms_list, cases_list, branches_list, loop_of, tests_list, test_of, expr_of, links_list, args_list, arg_of, desig_of, sels_list, sel_of, return_option};
 ghost use Rattle.alma_ir.specs.Phrases.{stmts_phrases, stmt_phrases, arms_phrases, cases_phrases, branches_phrases, loop_phrases, tests_phrases, test_phrases, expr_phrases, links_phrases, args_phrases, arg_phrases, desig_phrases, sels_phrases, sel_phrases, return_phrases};
 ghost use Rattle.alma_lower_tables.specs.Numbers.{tables_of};

@@ -1,5 +1,5 @@
 // A code in the making, with the lines that are still to be handed out.
-ghost use Rattle.std.specs.Prelude.{◌≡◌, ◌+◌, ◌≤◌, ◌∷◌, [], ℕ, List, length, get_or, drop, IfOk, IsOk, OnOk};
+ghost use Rattle.std.specs.Prelude.{◌≡◌, ◌+◌, ◌≤◌, ◌∷◌, [], length, get_or, drop, IfOk, IsOk, OnOk};
 ghost use Rattle.alma_code.specs.declared.cell.SlotKind.TheVariants as slot;
 ghost use Rattle.alma_base.specs.Limits.{instr_limit};
 ghost use Rattle.alma_choice.specs.Emitted.{aim_jump};

@@ -3,7 +3,7 @@ ghost use Rattle.std.specs.Prelude.{false, ◌≡◌, ◌+◌, ◌^◌, ◌<◌,
 ghost use Rattle.alma_base.specs.Limits.{input_limit};
 ghost use Rattle.alma_code.specs.Machine.{State, act};
 ghost use Rattle.alma_code.specs.Plain.{PlainCode};
-ghost use Rattle.alma_machine.specs.Needs.{Computes, Needs, is_first_form, is_control_form, is_place_form, is_cell_form, is_choice_form, is_call_form, is_read_form, is_link_form};
+ghost use Rattle.alma_machine.specs.Needs.{Computes, Needs, is_first_form, is_control_form, is_place_form, is_cell_form, is_choice_form, is_call_form, is_read_form};
 ghost use Rattle.alma_machine_acts.specs.Rows.{state_of, HasNumber, KeepsOn, put_or_fault};
 ghost use Rattle.alma_machine_acts.specs.Steps.{step_result, PrintsOnly};
 

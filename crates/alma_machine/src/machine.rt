@@ -5,7 +5,6 @@ ghost use Rattle.alma_code.specs.Layout.{start_frame};
 ghost use Rattle.alma_code.specs.Plain.{head_at};
 ghost use Rattle.alma_object.specs.View.{code_of_view, head_of_view};
 ghost use Rattle.alma_verify.specs.Verified.{code_of_verified};
-ghost use Rattle.alma_code.specs.Rules.{IsSound};
 ghost use Rattle.alma_code.specs.Machine.{Going, step, start, after, prints};
 ghost use Rattle.alma_machine_acts.specs.Rows.{state_of};
 ghost use Rattle.alma_machine_acts.specs.Steps.{step_result, ModeAfter, PrintsOnly};

@@ -1,5 +1,5 @@
 // Stores, bindings and equations of known cells, and the simple choices, made at once.
-ghost use Rattle.std.specs.Prelude.{◌≡◌, ◌+◌, ◌<◌, ◌^◌, Some, length};
+ghost use Rattle.std.specs.Prelude.{◌+◌, ◌<◌, ◌^◌, Some, length};
 ghost use Rattle.alma_code.specs.Machine.{number, place, content, store, binds_content, optional_range_check, equation, mark, cut_to, answer_of_push, state_after_push, pop, put_mark, quiet_step, act};
 ghost use Rattle.alma_code.specs.declared.cell.ChoiceKind.TheVariants as choice;
 ghost use Rattle.alma_machine.specs.Needs.{Needs};

@@ -1,10 +1,8 @@
 // Equations of cells, one after another, and copies of cells.
-ghost use Rattle.std.specs.Prelude.{◌≡◌, ◌+◌, ◌<◌, ◌≤◌, ℕ, [], ◌∷◌, Some, None, length, get_or, IfOk, OnErr, IsOk};
+ghost use Rattle.std.specs.Prelude.{◌≡◌, ◌+◌, ◌<◌, ◌≤◌, [], Some, None, IfOk, OnErr, IsOk};
 ghost use Rattle.alma_code.specs.declared.cell.Cell.TheVariants as cell;
-ghost use Rattle.alma_code.specs.Fits.{IsContent};
-ghost use Rattle.alma_code.specs.Machine.{place, equation_of_contents, equation, equations, copies_cells, quiet_step};
-ghost use Rattle.alma_code.specs.Picture.{cell_at};
-ghost use Rattle.alma_machine_acts.specs.Rows.{state_of, HasCells, HasOneCell, HasNumberIn, IsCells, KeepsOn, KeepsNumbers, width, AreNumbers};
+ghost use Rattle.alma_code.specs.Machine.{place, equation_of_contents, equation, equations, quiet_step};
+ghost use Rattle.alma_machine_acts.specs.Rows.{state_of, HasCells, HasOneCell, HasNumberIn, KeepsOn, KeepsNumbers, width, AreNumbers};
 ghost use Rattle.alma_machine_acts.specs.Meets.{Meets, MeetsOn, give_number};
 ghost use Rattle.alma_machine_acts.specs.Steps.{step_result};
 

@@ -1,5 +1,5 @@
 // READ.
-ghost use Rattle.std.specs.Prelude.{◌≡◌, ◌<◌, ◌≤◌, ◌^◌, ℕ, [], length, slice_get, IfOk, OnErr, MatchOption};
+ghost use Rattle.std.specs.Prelude.{◌≡◌, ◌<◌, ◌≤◌, ℕ, [], length, slice_get, IfOk, OnErr};
 ghost use Rattle.alma_base.specs.Limits.{input_limit};
 ghost use Rattle.alma_base.specs.Reading.{number_from};
 ghost use Rattle.alma_code.specs.Machine.{State, StepResult, place, position, takes_read, byte_or_failure};

@@ -1,7 +1,7 @@
 // Links to frames, and what they lead to.
-ghost use Rattle.std.specs.Prelude.{◌≡◌, ◌<◌, ℕ, [], length, IfOk, OnErr};
+ghost use Rattle.std.specs.Prelude.{◌≡◌, ◌<◌, ℕ, [], IfOk, OnErr};
 ghost use Rattle.alma_code.specs.Machine.{State, link, slot_in, as_place, put_link, put_place};
-ghost use Rattle.alma_machine_acts.specs.Rows.{state_of, HasPlaceIn, HasLink, HasLinkTo, LeadsTo, HasPlace, KeepsOn, GivesHeld, GivesLink, point_or_fault, link_or_fault};
+ghost use Rattle.alma_machine_acts.specs.Rows.{state_of, HasPlaceIn, HasLink, HasLinkTo, LeadsTo, KeepsOn, GivesHeld, GivesLink, point_or_fault, link_or_fault};
 ghost use Rattle.alma_machine_acts.specs.Steps.{step_result};
 
 use crate::places::Spot;

@@ -1,5 +1,5 @@
 // The places that slots name, and their parts.
-ghost use Rattle.std.specs.Prelude.{◌≡◌, ◌+◌, ◌*◌, ◌^◌, ◌<◌, ◌≤◌, ◌-ℤ◌, ℕ, [], true, nat_abs, slice_get, Some, IfOk, OnErr, IsTrue};
+ghost use Rattle.std.specs.Prelude.{◌≡◌, ◌+◌, ◌*◌, ◌^◌, ◌<◌, ◌≤◌, ◌-ℤ◌, ℕ, [], true, nat_abs, slice_get, Some, IfOk, OnErr};
 ghost use Rattle.alma_base.specs.declared.fault.RunFault.TheVariants as fault;
 ghost use Rattle.alma_base.specs.Numbers.{within, range_size};
 ghost use Rattle.alma_code.specs.Machine.{State, number, place, range_check, put_place};

@@ -1,5 +1,5 @@
 // The carry of an entry, which takes memory only once it gains something.
-ghost use Rattle.std.specs.Prelude.{◌≡◌, [], length, is_ok, is_some, IfSome, IfNone, OnOk, if◌then◌else◌};
+ghost use Rattle.std.specs.Prelude.{◌≡◌, [], length, is_ok, IfSome, IfNone, OnOk, if◌then◌else◌};
 ghost use Rattle.alma_base.specs.Carry.{with_changes};
 ghost use Rattle.alma_memory_store.specs.Carries.{IsRising, carry_of_entries};
 

@@ -1,13 +1,13 @@
 // A list, its copies as marks, and the trail.
 ghost use Rattle.std.specs.Prelude.{◌≡◌, ℕ, ◌+◌, ◌-◌, ◌<◌, ◌≤◌, [], ◌∷◌, ◌++◌, length, take, drop};
 ghost use Rattle.std.specs.Prelude.{set, replicate, slice_get, slice_index_or, Some, true, false};
-ghost use Rattle.std.specs.Prelude.{is_ok, IsOk, OnOk, OnErr, IfOk, IsTrue, if◌then◌else◌};
+ghost use Rattle.std.specs.Prelude.{is_ok, IsOk, OnOk, OnErr, IfOk, if◌then◌else◌};
 ghost use Rattle.std.specs.Prelude.{◌^◌, vec_len, vec_capacity};
 ghost use Rattle.std.specs.BTreeMap.{get};
 ghost use Rattle.std.specs.Ordering.{nat_cmp};
 ghost use Rattle.alma_memory_rewind.specs.PlainRewind.{IsOlds, needed, top_copy};
 ghost use Rattle.alma_memory_rewind.specs.Trail.{before, first_of, held_of, is_free, last_mark};
-ghost use Rattle.alma_memory_rewind.specs.Trail.{free_from, trail_for};
+ghost use Rattle.alma_memory_rewind.specs.Trail.{trail_for};
 ghost use Rattle.alma_memory_rewind.specs.Sound.{AddsNoted, AreOld, AreStamps, IsSound, Keeps};
 ghost use Rattle.alma_memory_rewind.specs.Sound.{Sweeps, SweepsOn};
 ghost use Rattle.alma_memory_rewind.specs.Restart.{cleared, with_serials, Renews};

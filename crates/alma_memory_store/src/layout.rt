@@ -1,5 +1,5 @@
 // How the slots of a new frame are laid out.
-ghost use Rattle.std.specs.Prelude.{◌≡◌, ℕ, ◌+◌, ◌-◌, ◌^◌, ◌<◌, ◌≤◌, [], ◌∷◌, ◌++◌, length, map, drop, replicate, slice_index_or, IfOk, OnOk, OnErr, vec_capacity};
+ghost use Rattle.std.specs.Prelude.{◌≡◌, ◌+◌, ◌-◌, ◌^◌, ◌<◌, ◌≤◌, [], ◌++◌, length, map, drop, replicate, slice_index_or, IfOk, OnOk, OnErr, vec_capacity};
 ghost use Rattle.alma_code.specs.Layout.{RunsRise, kinds_of, arg_cells, args_cells, FitsParam, FitsParams, FitsPlace, mix_cells, cells_behind_argument, IsHead, cells_at, cells_of_call, start_frame};
 ghost use Rattle.alma_code.specs.Picture.{no_frame};
 ghost use Rattle.alma_code.specs.Carries.{IsLive};

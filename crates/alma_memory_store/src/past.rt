@@ -1,14 +1,13 @@
 // What was written since the top copy: the number slots that differ.
-ghost use Rattle.std.specs.Prelude.{◌≡◌, ℕ, ◌+◌, ◌-◌, ◌<◌, ◌≤◌, ◌∷◌, [], ◌++◌, length, take, slice_get, slice_index_or, Some, true, IfOk};
+ghost use Rattle.std.specs.Prelude.{◌≡◌, ℕ, ◌+◌, ◌-◌, ◌<◌, ◌≤◌, ◌++◌, length, take, Some, IfOk};
 ghost use Rattle.std.specs.BTreeMap.{get};
 ghost use Rattle.std.specs.Ordering.{nat_cmp};
-ghost use Rattle.alma_code.specs.Picture.{no_frame};
 ghost use Rattle.alma_code.specs.Carries.{diffs, diff_at, slot_diffs, same_cell};
 ghost use Rattle.alma_memory_rewind.specs.PlainRewind.{first_or, top_copy};
 ghost use Rattle.alma_memory_store.specs.Carries.{carry_of_entries};
 ghost use Rattle.alma_memory_store.specs.Numbers.{number_of};
 ghost use Rattle.alma_memory_store.specs.Past.{Gains, IsAt, IsKept, IsNone, IsReplaced, SameGain, change_between};
-ghost use Rattle.alma_memory_store.specs.Regions.{AreLaid, frames_of, no_region};
+ghost use Rattle.alma_memory_store.specs.Regions.{AreLaid, frames_of};
 ghost use Rattle.alma_memory_store.specs.PlainStore.{IsState};
 
 use crate::carry::SlotPlace;

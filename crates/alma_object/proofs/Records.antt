@@ -1,5 +1,5 @@
 -- What an opcode tells of a record.
-use Rattle.std.proofs.Common.{◌≡◌, ℕ, ◌+◌, ◌∷◌, get_or, ap}
+use Rattle.std.proofs.Common.{◌≡◌, ℕ, ◌∷◌, get_or, ap}
 use Rattle.alma_code.specs.declared.instr.Instr.{Instr}
 use Rattle.alma_code.specs.declared.instr.Instr.TheVariants as I
 use Rattle.alma_object.specs.declared.record.InstrRecord.{InstrRecord}

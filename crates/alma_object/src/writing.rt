@@ -1,9 +1,9 @@
 // A code as the bytes of an object.
-ghost use Rattle.std.specs.Prelude.{◌≡◌, ◌+◌, ◌≤◌, ◌<◌, ◌^◌, [], ◌∷◌, if◌then◌else◌, ◌++◌, ◌||◌, true, nat_eq, length, sum_by, OnOk, IfOk};
+ghost use Rattle.std.specs.Prelude.{◌≡◌, ◌+◌, ◌<◌, [], ◌∷◌, if◌then◌else◌, ◌++◌, length, sum_by, OnOk, IfOk};
 ghost use Rattle.std.specs.List.{flat_map};
-ghost use Rattle.alma_code.specs.Plain.{code_of, routine_of, global_of};
+ghost use Rattle.alma_code.specs.Plain.{code_of};
 ghost use Rattle.alma_code.specs.Records.{KeepsCounts, param_count as param_count_of, run_count as run_count_of, name_count as name_count_of, text_count as text_count_of};
-ghost use Rattle.alma_object_format.specs.Object.{section, header_bytes, table_bytes, pool_bytes, object_bytes, routine_bytes, global_bytes, param_bytes, run_bytes, range_bytes, text_end_bytes, line_bytes, param_number as param_number_of, slot_number as slot_number_of, slot_size as slot_size_of};
+ghost use Rattle.alma_object_format.specs.Object.{section, header_bytes, pool_bytes, object_bytes, routine_bytes, global_bytes, param_bytes, run_bytes, range_bytes, text_end_bytes, line_bytes, param_number as param_number_of, slot_number as slot_number_of, slot_size as slot_size_of};
 ghost use Rattle.alma_object_format.specs.Bytes.{words_bytes};
 ghost use Rattle.alma_object_format.specs.Instrs.{instr_bytes};
 

@@ -1,5 +1,4 @@
 pub mod OwnEnds
-pub mod PartLemmas
 pub mod RefusalLemmas
 pub mod Courses
 pub mod CauseLemmas

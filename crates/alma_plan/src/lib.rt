@@ -21,4 +21,4 @@ pub use source::{FileStop, tell_file};
 pub use stop::Stop;
 pub use store::store_program;
 pub use telling::{tell_program, tell_refusal};
-pub use writing::{report, write_parts};
+pub use writing::report;

@@ -1,7 +1,6 @@
 // The run of a program.
 ghost use Rattle.std.specs.Prelude.{◌≡◌, ◌≤◌, ◌^◌, ℕ, List, length};
 ghost use Rattle.alma_base.specs.Limits.{input_limit};
-ghost use Rattle.alma_code.specs.Lines.{line_at};
 ghost use Rattle.alma_code.specs.Plain.{code_of};
 ghost use Rattle.alma_code.specs.Records.{KeepsCounts, KeepsRecords, KeepsVersion};
 ghost use Rattle.alma_code.specs.Rules.{IsSound};
@@ -10,7 +9,6 @@ ghost use Rattle.alma_ir.specs.Checked.{IsChecked};
 ghost use Rattle.alma_ir.specs.Tree as tree;
 ghost use Rattle.alma_ir.specs.View.{program_of};
 ghost use Rattle.alma_lower_sound.specs.Reads.{program_reads};
-ghost use Rattle.alma_object.specs.View.{code_of_view};
 ghost use Rattle.alma_plan.specs.Course.{Follows, Goes};
 ghost use Rattle.alma_plan.specs.Plan.{Ending};
 ghost use Rattle.alma_plan.specs.Ends.{program_end, run_end};
@@ -26,19 +24,9 @@ use alma_io::{Sink, Source, read_all};
 use alma_ir::Program;
 use alma_lower::{LowerError, lower};
 use alma_machine::{Machine, RunEnd};
-use alma_object::{ObjectView, encode};
+use alma_object::encode;
 use alma_verify::{Verified, open_encoded};
 use std::alloc::Global;
-
-// The line of an address; 0 where none is known.
-fn line_of(view: &ObjectView<'_>, at: u32) -> u32
-    ensures { result ≡ line_at (code_of_view view.now) at }
-{
-    match view.line_of(at) {
-        Some(line) => line,
-        None => 0,
-    }
-}
 
 // The end of a program by the answer of its run, and the line of the last instruction.
 fn end_of(run: RunEnd, line: u32) -> ProgramEnd
@@ -71,7 +59,7 @@ fn run_on<O: Sink>(
     match Machine::new(alloc, code, input) {
         Ok(mut machine) => {
             let end = machine.run(steps, out);
-            let line = line_of(machine.view(), machine.at());
+            let line = machine.view().line_at(machine.at());
             end_of(end, line)
         }
         Err(NoMemory) => ProgramEnd::Stopped(Stop::Memory),

@@ -9,8 +9,7 @@ ghost use Rattle.alma_pool.specs.Pool.{program_at, seen_of};
 
 use crate::pool::Pool;
 use alma_code::End;
-use alma_io::{Sink, WriteFault};
-use alma_plan::write_parts;
+use alma_io::{Sink, WriteFault, write_parts};
 use itoa::Buffer;
 
 // The words for an end, but for the name of a fault.

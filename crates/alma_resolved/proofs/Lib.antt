@@ -41,7 +41,7 @@ pub mod ConditionsMet
 pub mod Tallies
 pub mod Counts
 pub mod Counting
-pub mod LineInstr
+pub mod Lined
 pub mod Spelled
 pub mod Naming
 pub mod Named

@@ -1,5 +1,5 @@
 // Laws of the rules and of resolved programs, each as the contract of a function that does nothing.
-ghost use Rattle.std.specs.Prelude.{◌≡◌, ℕ, ◌≤◌, List, [], Option, Some};
+ghost use Rattle.std.specs.Prelude.{◌≡◌, ℕ, ◌≤◌, List, [], Some};
 ghost use Rattle.std.specs.List.{AllByRecursion};
 ghost use Rattle.alma_scan.specs.Tokens.{Lexeme};
 ghost use Rattle.alma_ir.specs.Tree.{Program, Stmts, routine_at};

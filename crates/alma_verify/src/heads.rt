@@ -2,7 +2,7 @@
 ghost use Rattle.std.specs.Prelude.{◌≡◌, ◌≤◌, ◌<◌, ◌+◌, ◌^◌, length};
 ghost use Rattle.std.specs.List.{list_all};
 ghost use Rattle.alma_base.specs.Limits.{record_limit};
-ghost use Rattle.alma_code.specs.Layout.{holds_param as holds_param_spec, hold_params, param_slots as param_slots_spec};
+ghost use Rattle.alma_code.specs.Layout.{holds_param as holds_param_spec, hold_params};
 ghost use Rattle.alma_code.specs.Plain.{head_at, kinds_at};
 ghost use Rattle.alma_code.specs.Rules.{IsTable, is_global, is_main as is_main_spec, rule_1 as rule_1_spec, last_end, names_routine as names_routine_spec, rule_2 as rule_2_spec, has_position as has_position_spec, rule_3 as rule_3_spec};
 
@@ -114,16 +114,6 @@ pub fn holds_param<R: CodeReader>(reader: &R, routine: u32, param: CodeParam, sl
     }
 }
 
-pub fn param_slots(param: CodeParam) -> u32
-    ensures { result ≡ param_slots_spec param.kind param.cells }
-{
-    match param.kind {
-        ParamKind::Value | ParamKind::Place | ParamKind::Link => 1,
-        ParamKind::Mix => 2,
-        ParamKind::Cells => param.cells,
-    }
-}
-
 #[tactic(auto, using(crate::proofs::Starts::param_steps))]
 pub fn are_params<R: CodeReader>(reader: &R, routine: u32) -> bool
     requires routine { routine < length (R.code reader.now).routines }
@@ -138,7 +128,7 @@ pub fn are_params<R: CodeReader>(reader: &R, routine: u32) -> bool
         if !holds_param(reader, routine, param, slot) {
             return false;
         }
-        slot += u64::from(param_slots(param));
+        slot += u64::from(param.slots());
     }
     true
 }

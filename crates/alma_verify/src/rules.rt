@@ -1,6 +1,5 @@
 // The rules of one instruction, one function each.
 ghost use Rattle.std.specs.Prelude.{slice_get, ◌≡◌, ◌<◌, length};
-ghost use Rattle.alma_code.specs.Plain.{head_at};
 ghost use Rattle.alma_code.specs.Rules.{IsTable, names_slot as names_slot_spec, rule_4 as rule_4_spec, rule_7 as rule_7_spec, names_entry as names_entry_spec, rule_8 as rule_8_spec, rule_12 as rule_12_spec, ends_routine as ends_routine_spec, rule_5 as rule_5_spec, rule_6 as rule_6_spec, has_room as has_room_spec, is_address as is_address_spec, names_address as names_address_spec, rule_9 as rule_9_spec, rule_10 as rule_10_spec, rule_11 as rule_11_spec, holds_result as holds_result_spec};
 ghost use Rattle.alma_verify.specs.Seen.{AreFit};
 

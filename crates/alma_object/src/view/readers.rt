@@ -1,6 +1,6 @@
 // What a view reads.
-ghost use Rattle.std.specs.Prelude.{◌≡◌, ◌+◌, ◌<◌, ◌≤◌, length, map, slice_get, slice_range, option_map, Some, None, MatchOption, MatchResult, IfOk, IfSome};
-ghost use Rattle.alma_code.specs.Lines.{line_of as line_of_code, known_line as known_line_of};
+ghost use Rattle.std.specs.Prelude.{◌≡◌, ◌+◌, ◌<◌, ◌≤◌, length, slice_get, slice_range, option_map, Some, None, MatchResult, IfOk, IfSome};
+ghost use Rattle.alma_code.specs.Lines.{line_at as line_at_code};
 ghost use Rattle.alma_code.specs.Plain.{start_at};
 ghost use Rattle.alma_code.specs.Reads.{is_read as is_read_of, code_reads};
 ghost use Rattle.alma_object_format.specs.Object.{IsObject};
@@ -31,12 +31,6 @@ fn is_read(instr: Instr) -> bool
     ensures { result ≡ is_read_of instr }
 {
     matches!(instr, Instr::ReadInt { .. } | Instr::ReadChar { .. })
-}
-
-fn known_line(line: u32) -> Option<u32>
-    ensures { result ≡ known_line_of line }
-{
-    if line == 0 { None } else { Some(line) }
 }
 
 impl<'b> ObjectView<'b> {
@@ -274,16 +268,16 @@ impl<'b> ObjectView<'b> {
         low
     }
 
-    /// The line of the last record at or before an address, where one is known.
-    pub fn line_of(&self, at: u32) -> Option<u32>
-        ensures { result ≡ line_of_code (code_of_view self.now) at }
+    /// The line of the last record at or before an address; 0 where there is none.
+    pub fn line_at(&self, at: u32) -> u32
+        ensures { result ≡ line_at_code (code_of_view self.now) at }
     {
         self.keeps_object();
         let count = self.lines_until(at);
         if count == 0 {
-            None
+            0
         } else {
-            known_line(self.line(count - 1).line)
+            self.line(count - 1).line
         }
     }
 }

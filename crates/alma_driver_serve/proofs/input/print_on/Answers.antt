@@ -14,7 +14,7 @@ returns-in-Ok g c =
     let code = code_of_verified c.args.code in
     let new = c.run-end.new.self.state in
     let same = c.view.ensures ∙ h.same.0 ∙ ap (λ m. m.code) c.in-Ok.ensures in
-    let line : c.line_of-line.result ≡ line_in code new = c.line_of-line.ensures ∙ ap (λ k. line_at k c.at.result) same
+    let line : c.line_at-line.result ≡ line_in code new = c.line_at-line.ensures ∙ ap (λ k. line_at k c.at.result) same
     ∙ ap (line_at code) c.at.ensures in
     let is : c.end_of.result ≡ run_end c.run-end.result (line_in code new) (counts_in c.args.stats new) =
     c.end_of.ensures ∙ ap (λ k. run_end c.run-end.result k c.counts_of.result) line

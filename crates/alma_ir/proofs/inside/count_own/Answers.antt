@@ -1,7 +1,7 @@
 -- The bytes of a text are those of its statement, and no other statement has any.
 use Rattle.std.proofs.Common.{◌≡◌, length, ap, sym, ◌∙◌, subst, arith}
 use Rattle.alma_ir.specs.Count.{saturate}
-use Rattle.alma_ir.specs.Measures.{own}
+use Rattle.alma_ir.specs.Inner.Measures.{own}
 use Rattle.alma_ir.specs.View.{stmt_of}
 use Rattle.alma_ir.specs.declared.inside.Measure.TheVariants as measure
 use Rattle.alma_ir.proofs.Counted.{no_bytes, text_bytes_of}

@@ -1,4 +1,4 @@
-use Rattle.std.proofs.Common.{◌++◌, length, refl, ap, ◌∙◌, arith}
+use Rattle.std.proofs.Common.{length, refl, ap, ◌∙◌, arith}
 use Rattle.alma_code.specs.Layout.{kinds_of}
 use Rattle.alma_memory_store.proofs.Layouts.{args-fit, head-kinds}
 use Rattle.alma_memory_store.proofs.image.lay_call.Goals as goal

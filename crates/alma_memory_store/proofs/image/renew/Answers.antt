@@ -1,4 +1,4 @@
-use Rattle.alma_memory_store.proofs.Blanks.{fresh-image, no-image}
+use Rattle.alma_memory_store.proofs.Blanks.{fresh-image}
 use Rattle.alma_memory_store.proofs.image.renew.Goals as goal
 
 pub returns-clause-image : goal.returns-clause-image

@@ -14,7 +14,7 @@ returns-in-Ok g c = λ program failed.
     let code = code_of_verified c.args.code in
     let new = c.run-end.new.self.state in
     let same = c.view.ensures ∙ h.same.0 ∙ ap (λ m. m.code) c.in-Ok.ensures in
-    let line : c.line_of-line.result ≡ line_in code new = c.line_of-line.ensures ∙ ap (λ k. line_at k c.at.result) same
+    let line : c.line_at-line.result ≡ line_in code new = c.line_at-line.ensures ∙ ap (λ k. line_at k c.at.result) same
     ∙ ap (line_at code) c.at.ensures in
     let is : c.end_of.result ≡ run_end c.run-end.result (line_in code new) = c.end_of.ensures ∙ ap (run_end c.run-end.result) line in
     rw is (goes_run program failed code c.args.input.now c.run-end.new.self c.args.steps (g.O.Sink.side c.args.out.now)

@@ -2,7 +2,7 @@ use Rattle.std.proofs.Common.{◌∙◌, ◌<◌, List, ℕ, length, subst, sym,
 use Rattle.std.proofs.lemmas.Result.{err_from_is_err_and}
 use Rattle.std.specs.Io.KnownBytes.{Appends}
 use Rattle.alma_io.proofs.Known.{appends_trans}
-use Rattle.alma_plan.proofs.PartLemmas.{front_after}
+use Rattle.alma_io.proofs.PartLemmas.{front_after}
 use Rattle.alma_pool.proofs.Showing.{shown_here, shown_more}
 use Rattle.alma_pool.proofs.show.show_all.Goals as goal
 

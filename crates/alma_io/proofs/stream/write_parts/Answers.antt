@@ -1,6 +1,6 @@
 use Rattle.std.proofs.lemmas.Result.{err_from_is_err_and}
-use Rattle.alma_plan.proofs.PartLemmas.{front_after, parts_at}
-use Rattle.alma_plan.proofs.writing.write_parts.Goals as goal
+use Rattle.alma_io.proofs.PartLemmas.{front_after, parts_at}
+use Rattle.alma_io.proofs.stream.write_parts.Goals as goal
 
 pub returns-in_err-write_all-clause-front : goal.returns-in_err-write_all-clause-front
 returns-in_err-write_all-clause-front g c =
