@@ -40,13 +40,13 @@ use Rattle.alma_driver_words.specs.Words.{Request, Check, Compile, Listing, Run,
 use Rattle.alma_driver_outcome.specs.Words.{read_by, limit_of, IsReadBy}
 use Rattle.alma_driver_outcome.specs.Showing.{Showing, Prints}
 use Rattle.alma_io.specs.Sides.{SinkSide, SourceSide, FilesSide}
-use Rattle.alma_io.specs.Outside.{FilesStay, StoredFile, OthersStay}
+use Rattle.alma_io.specs.Outside.{FilesStay, StoredFile, OthersStay, MayBeLeft}
 use Rattle.alma_base.specs.declared.place.Place.{Place}
 use Rattle.alma_scan.specs.Places.{line_at, column_at}
 use Rattle.alma_source.specs.Refusal.{IsRefused, IsProgramOf, place_of}
 use Rattle.alma_source.specs.declared.fault.SourceFault.{SourceFault}
 use Rattle.alma_driver_outcome.specs.Ends.{lower_end, words_end, fetch_end, store_end, input_end}
-use Rattle.alma_driver_outcome.specs.Outcome.{Due, due_of, silent, storing, code_due, long_input, MayBeLeft, InputOutcome, unread}
+use Rattle.alma_driver_outcome.specs.Outcome.{Due, due_of, silent, storing, code_due, long_input, InputOutcome, unread}
 use Rattle.alma_driver_outcome.specs.Outcome.{taken, past_input, ProgramOutcome, ran, too_much_code, CompileOutcome, made}
 use Rattle.alma_driver_outcome.specs.Outcome.{past_size, IsSourceEnd, refused, IsStop, SourceOutcome, stopped, compiled, CheckOutcome}
 use Rattle.alma_driver_outcome.specs.Outcome.{ListOutcome, listed, no_object, CodeOutcome, executed, unsound, ExecOutcome, opened, unopened}

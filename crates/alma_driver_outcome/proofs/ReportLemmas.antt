@@ -7,7 +7,8 @@ use Rattle.alma_base.specs.declared.fault.RunFault.{RunFault}
 use Rattle.alma_code.specs.Lines.{known_line}
 use Rattle.alma_object_format.specs.declared.fault.ObjectFault.{ObjectFault}
 use Rattle.alma_object_format.specs.Fault.{object_fault_name, object_fault_number}
-use Rattle.alma_driver_outcome.specs.Ends.{line_text, fault_text, number_text, object_text}
+use Rattle.alma_driver_outcome.specs.Ends.{fault_text, number_text, object_text}
+use Rattle.alma_run_laws.specs.Shown.{line_text}
 use Rattle.alma_driver_outcome.specs.Ends.{rule_line, counts_line}
 use Rattle.std.specs.Io.KnownBytes.{Appends}
 use Rattle.alma_io.specs.Fronts.{AppendsFront}

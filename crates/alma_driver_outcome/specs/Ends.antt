@@ -26,6 +26,7 @@ use Rattle.alma_driver_outcome.specs.declared.end.Counts.{Counts}
 use Rattle.alma_driver_outcome.specs.declared.end.End.{End}
 use Rattle.alma_driver_outcome.specs.declared.end.End.TheVariants.{Succeeded, Failed, BadWord, Refused, Faulted, StepsOut, ReadFault}
 use Rattle.alma_driver_outcome.specs.declared.end.End.TheVariants.{WriteFault, Memory, BadObject, BadCode, TooLong, TooMuchCode}
+use Rattle.alma_run_laws.specs.Shown.{line_text}
 
 -- the status of an end
 abbrev pub status_of : End → ℕ
@@ -58,11 +59,6 @@ fixed_text (BadObject fault) = []
 fixed_text (BadCode fault) = []
 fixed_text TooLong = codes "alma: too long\n"
 fixed_text (TooMuchCode size) = []
-
--- where a run stopped in a fault, if its line is known
-abbrev pub line_text : Option ℕ → List ℕ
-line_text None = []
-line_text (Some line) = codes " line " ++ decimal line
 
 -- the text of a run that stopped in a fault
 abbrev pub fault_text : RunFault → (line : ℕ) → List ℕ

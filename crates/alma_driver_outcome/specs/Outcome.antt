@@ -2,7 +2,7 @@
 use Rattle.std.specs.Prelude.{◌≡◌, ◌<◌, ◌≤◌, ◌⊎◌, Bool, true, false, List, ℕ, [], length, Option, None, Some}
 use Rattle.alma_base.specs.Limits.{size_limit, input_limit}
 use Rattle.alma_io.specs.Files.{Told, Missing, MayHave, MayPass}
-use Rattle.alma_io.specs.Outside.{StoredFile}
+use Rattle.alma_io.specs.Outside.{StoredFile, MayBeLeft}
 use Rattle.alma_io.specs.Whole.{MayHaveMore}
 use Rattle.alma_ir.specs.Tree.{Program}
 use Rattle.alma_mean.specs.Events as events
@@ -66,11 +66,6 @@ code_due code input steps showing = record {
   stored = None;
   reads = code_reads code;
 }
-
--- what is left of the input may be these bytes
-abbrev pub MayBeLeft : Option (List ℕ) → List ℕ → Type 0
-MayBeLeft None bytes = Unit {0}
-MayBeLeft (Some left) bytes = left ≡ bytes
 
 -- an input that was read and is too long
 abbrev pub long_input : Due

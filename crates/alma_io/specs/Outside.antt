@@ -1,7 +1,9 @@
 -- What is outside of a call as it stands at one moment, what becomes of it, and what failed.
 use Rattle.std.specs.Prelude.{◌≡◌, ◌≢◌, ◌≤◌, ◌<◌, ◌⊎◌, List, ℕ, Option, None, Some}
+use Rattle.std.specs.Io.KnownBytes.{Appends}
 use Rattle.alma_io.specs.Causes.{Rose}
 use Rattle.alma_io.specs.Files.{NowHas}
+use Rattle.alma_io.specs.Fronts.{AppendsFront}
 use Rattle.alma_io.specs.Sides.{SinkSide, SourceSide, FilesSide}
 
 -- all sides
@@ -41,11 +43,32 @@ abbrev pub Become : FilesSide → FilesSide → Option StoredFile → Type 0
 Become old new None = FilesStay old new
 Become old new (Some stored) = HasStored old new stored
 
+-- ---- the input
+
+-- what is left of the input may be these bytes
+abbrev pub MayBeLeft : Option (List ℕ) → List ℕ → Type 0
+MayBeLeft None bytes = Unit {0}
+MayBeLeft (Some left) bytes = left ≡ bytes
+
 -- ---- what failed
 
 -- a fault came: the count never falls, and it grew or stands at its last value
 abbrev pub HasRisen : ℕ → ℕ → Type 0
 HasRisen before now = (before ≤ now) × Rose before now
+
+-- ---- the outputs
+
+-- the sink gained these bytes, and did not fail
+pub record Gains (old new : SinkSide) (bytes : List ℕ) : Type 0 where
+  pub bytes_are : Appends old.written new.written bytes
+  pub quiet : new.faults ≡ old.faults
+
+-- the sink gained a prefix of these bytes, and failed
+pub record FailsWithin (old new : SinkSide) (bytes : List ℕ) : Type 0 where
+  pub front : AppendsFront old.written new.written bytes
+  pub risen : HasRisen old.faults new.faults
+
+-- ---- the call
 
 -- a write or a store failed in the call
 abbrev pub WriteFailed : Outside → Outside → Type 0

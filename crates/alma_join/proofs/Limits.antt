@@ -18,7 +18,8 @@ use Rattle.alma_copy.specs.Moved.{Moves, moved_stmts, moved_routine}
 use Rattle.alma_join.specs.Joined.{Kept, is_bare, kept_from, kept_of, kept_in, own_slots, body_moves, procedure_moves}
 use Rattle.alma_join.specs.Joined.{global_behind, joined_globals, joined_stmts, joined_lines, joined_procedures, TooLarge, Totals}
 use Rattle.alma_join.specs.Joined.{no_totals, with_unit, passes, size_fault, first_of, joined_body, joined_program}
-use Rattle.alma_join.proofs.Moving.{stmts_moved, append_phrases}
+use Rattle.alma_join.proofs.Moving.{stmts_moved}
+use Rattle.alma_rules.proofs.Phrases.{append_phrases}
 use Rattle.alma_join.proofs.Forms.{texts_moved, count_moved}
 use Rattle.alma_join.proofs.KeptLists.{by_test}
 

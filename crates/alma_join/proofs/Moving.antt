@@ -1,5 +1,5 @@
 -- The phrases of statements that are numbered anew are the phrases numbered anew.
-use Rattle.std.proofs.Common.{◌≡◌, List, ◌∷◌, ◌++◌, map, refl, sym, ap, ◌∙◌, append_assoc}
+use Rattle.std.proofs.Common.{◌≡◌, List, ◌∷◌, ◌++◌, map, refl, sym, ◌∙◌}
 use Rattle.std.proofs.lemmas.List.{map-append}
 use Rattle.alma_ir.specs.Tree.{Stmts, Stmt, Arms, CaseArms, Else, Branches, Loop, ReturnExpr, Test, Tests, Expr, Links, Args, Arg, Desig}
 use Rattle.alma_ir.specs.Tree.{Sels, Sel, no_stmts, more_stmts, TestStmt, Assign, CopyCells, If, While, Repeat, ForTo, SomeOf, Case, Either}
@@ -12,17 +12,9 @@ use Rattle.alma_ir.specs.Phrases.{Phrase, StmtPhrase, TestPhrase, ExprPhrase, Ar
 use Rattle.alma_ir.specs.Phrases.{stmt_phrases, arms_phrases, cases_phrases, else_phrases, branches_phrases, loop_phrases, return_phrases}
 use Rattle.alma_ir.specs.Phrases.{test_phrases, tests_phrases, expr_phrases, links_phrases, args_phrases, arg_phrases, desig_phrases}
 use Rattle.alma_ir.specs.Phrases.{sels_phrases, sel_phrases}
-use Rattle.alma_rules.specs.Parts.{append_stmts}
 use Rattle.alma_copy.specs.Moved.{Moves, moved_stmts, moved_stmt, moved_arms, moved_cases, moved_else, moved_branches, moved_loop}
 use Rattle.alma_copy.specs.Moved.{moved_return, moved_test, moved_tests, moved_expr, moved_links, moved_args, moved_arg, moved_desig}
 use Rattle.alma_copy.specs.Moved.{moved_sels, moved_sel}
-
--- the phrases of two lists of statements
-pub append_phrases : (x y : Stmts) → stmts_phrases (append_stmts x y) ≡ stmts_phrases x ++ stmts_phrases y
-unfolding stmts_phrases
-append_phrases no_stmts y = refl
-append_phrases (more_stmts line x rest) y = ap (λ o. stmt_phrases x ++ o) (append_phrases rest y)
-    ∙ sym (append_assoc (stmt_phrases x) (stmts_phrases rest) (stmts_phrases y))
 
 -- a phrase numbered anew
 abbrev pub moved_phrase : Moves → Phrase → Phrase

@@ -18,7 +18,8 @@ use Rattle.alma_copy.specs.Numbers.{slot_behind}
 use Rattle.alma_join.specs.Joined.{Kept, is_empty, is_bare, kept_in, number_of_kept, matches, first_match, new_number}
 use Rattle.alma_join.specs.Joined.{own_slots, body_moves, procedure_moves, global_behind, joined_globals, joined_stmts}
 use Rattle.alma_join.specs.Joined.{joined_procedures, no_program, first_of, joined_body, joined_program, AreUnits}
-use Rattle.alma_join.proofs.Moving.{moved_phrase, stmts_moved, append_phrases}
+use Rattle.alma_join.proofs.Moving.{moved_phrase, stmts_moved}
+use Rattle.alma_rules.proofs.Phrases.{append_phrases}
 use Rattle.alma_join.proofs.Forms.{each_of_map}
 use Rattle.alma_join.proofs.KeptLists.{each_at, no_kept, unit_at, before_at, ascend_in, number_is, Found, found}
 use Rattle.alma_join.proofs.KeptLists.{has_in, IsMoved, pairs_in, pairs_at, pairs_length}

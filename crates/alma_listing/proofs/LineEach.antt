@@ -1,5 +1,5 @@
 -- A fact of each phrase of the procedure that lists, from the fact of each of its few forms; and how many statements it has.
-use Rattle.std.proofs.Common.{◌≡◌, ℕ, zero, suc, List, [], ◌∷◌, ◌++◌, ◌+◌, refl, sym, ap, ◌∙◌, append_assoc, arith}
+use Rattle.std.proofs.Common.{◌≡◌, ℕ, zero, suc, List, [], ◌∷◌, ◌++◌, ◌+◌, refl, arith}
 use Rattle.std.specs.Prelude.{ℤ, pos, codes}
 use Rattle.std.specs.List.{AllByRecursion}
 use Rattle.alma_ir.specs.declared.phrase.Root.TheVariants as root
@@ -7,17 +7,9 @@ use Rattle.alma_ir.specs.declared.phrase.WriteAs.TheVariants as write_as
 use Rattle.alma_ir.specs.Tree.{Stmts, Global, no_stmts, more_stmts, ForTo, WriteExpr, WriteText, Value, Const, Load, Known, a_desig}
 use Rattle.alma_ir.specs.Tree.{no_sels, Index}
 use Rattle.alma_ir.specs.Lines.{stmt_count}
-use Rattle.alma_ir.specs.Phrases.{Phrase, StmtPhrase, TestPhrase, ExprPhrase, DesigPhrase, SelPhrase, stmts_phrases, stmt_phrases}
-use Rattle.alma_rules.specs.Parts.{append_stmts}
+use Rattle.alma_ir.specs.Phrases.{Phrase, StmtPhrase, TestPhrase, ExprPhrase, DesigPhrase, SelPhrase, stmts_phrases}
 use Rattle.alma_listing.specs.Lister.{index, cell_range, cell_of_global, write_comma, write_cell, cells_loop, write_cells, write_globals}
 use Rattle.alma_listing.specs.Lister.{write_line, global_stmts, globals_stmts}
-
--- the phrases of two lists of statements
-pub append_phrases : (x y : Stmts) → stmts_phrases (append_stmts x y) ≡ stmts_phrases x ++ stmts_phrases y
-unfolding stmts_phrases
-append_phrases no_stmts y = refl
-append_phrases (more_stmts line x rest) y =
-    ap (λ o. stmt_phrases x ++ o) (append_phrases rest y) ∙ sym (append_assoc (stmt_phrases x) (stmts_phrases rest) (stmts_phrases y))
 
 -- ---- how many statements
 

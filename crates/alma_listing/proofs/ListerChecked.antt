@@ -28,7 +28,8 @@ use Rattle.alma_listing.specs.Listing.{ListerIsChecked}
 use Rattle.alma_rules.specs.Parts.{append_stmts}
 use Rattle.alma_listing.specs.Lister.{lister, list_and_fail, listing_body, listing_of, write_cells, write_globals, write_line}
 use Rattle.alma_listing.specs.Lister.{globals_stmts, cells_loop, cell_range}
-use Rattle.alma_listing.proofs.LineEach.{append_phrases, line_each, line_count}
+use Rattle.alma_listing.proofs.LineEach.{line_each, line_count}
+use Rattle.alma_rules.proofs.Phrases.{append_phrases}
 
 -- routines with the same slots and parameters have the same number slots
 numbers_in : (a b : Routine) → a.slots ≡ b.slots → a.params ≡ b.params → (from count : ℕ) → AreNumbers a from count →

@@ -10,7 +10,8 @@ use Rattle.alma_lower_sound.specs.Entries.{of_each}
 use Rattle.alma_lower_sound.specs.Reads.{is_read_phrase, program_reads}
 use Rattle.alma_listing.specs.Lister.{lister, list_and_fail, listing_of, write_line}
 use Rattle.alma_listing.specs.Listing.{EachReadsAlike}
-use Rattle.alma_listing.proofs.LineEach.{append_phrases, line_each}
+use Rattle.alma_listing.proofs.LineEach.{line_each}
+use Rattle.alma_rules.proofs.Phrases.{append_phrases}
 
 or_false : (b : Bool) → (b || false) ≡ b
 or_false true = refl

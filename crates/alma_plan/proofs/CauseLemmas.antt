@@ -6,10 +6,10 @@ use Rattle.std.specs.Io.KnownBytes.{Appends}
 use Rattle.alma_io.specs.Files.{Told, MayHave, MayPass}
 use Rattle.alma_io.specs.Fronts.{AppendsFront}
 use Rattle.alma_io.specs.Sides.{SourceSide, FilesSide}
-use Rattle.alma_io.specs.Outside.{FilesStay, Outside, StoredFile, OthersStay, Become, WriteFailed, WritesGrew, ReadsGrew}
+use Rattle.alma_io.specs.Outside.{FilesStay, Outside, StoredFile, OthersStay, Become, WriteFailed, WritesGrew, ReadsGrew, Gains}
 use Rattle.alma_plan.specs.Plan.{Ending, Due, Plan, Sense, plain, Fetches, Judges, Reads, Ends, Reading, Kept, Finished, Passed}
 use Rattle.alma_plan.specs.Plan.{MayLack, Lacks, Comes}
-use Rattle.alma_plan.specs.Course.{Gains, Takes, MayRead, ReadsOnly, GainsPrefix, Follows, unfetched, unread, unwritten}
+use Rattle.alma_plan.specs.Course.{Takes, MayRead, ReadsOnly, GainsPrefix, Follows, unfetched, unread, unwritten}
 use Rattle.alma_plan.specs.Course.{unstored, starved, done, Reports, said, unsaid, Answers}
 use Rattle.alma_plan.specs.Causes.{FetchFailed, InputFailed, MayCome, IsStoredName, MayEnd, unread_end}
 use Rattle.alma_plan.specs.Causes.{unwritten_end, starved_end, due_end, Causes}

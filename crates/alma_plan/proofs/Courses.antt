@@ -14,11 +14,11 @@ use Rattle.alma_io.specs.declared.files.Fetch.TheVariants as fetch
 use Rattle.alma_io.specs.declared.whole.ReadAll.{ReadAll}
 use Rattle.alma_io.specs.declared.whole.ReadAll.TheVariants as reading
 use Rattle.alma_io.proofs.Known.{appends_none}
-use Rattle.alma_io.specs.Outside.{HasRisen, FilesStay, StoredFile, OthersStay, Become}
+use Rattle.alma_io.specs.Outside.{HasRisen, FilesStay, StoredFile, OthersStay, Become, MayBeLeft, Gains}
 use Rattle.alma_plan.specs.Plan.{Ending, Due, Plan, Sense, Fetches, Judges, Reads, Ends, Reading, Kept, Finished, Passed, Asks}
-use Rattle.alma_plan.specs.Plan.{Comes, MayBeLeft, silent, read_fault, write_fault, no_memory, too_long}
+use Rattle.alma_plan.specs.Plan.{Comes, silent, read_fault, write_fault, no_memory, too_long}
 use Rattle.alma_plan.specs.Refusals.{stop_end, fetch_stop, read_stop}
-use Rattle.alma_plan.specs.Course.{Gains, Takes, IsBegun, MayRead, ReadsOnly, GainsPrefix, Goes, cut_short, hungry}
+use Rattle.alma_plan.specs.Course.{Takes, IsBegun, MayRead, ReadsOnly, GainsPrefix, Goes, cut_short, hungry}
 use Rattle.alma_plan.specs.Course.{hungry_within, whole, Course, Follows, unfetched, unread, unwritten, unstored, starved, done}
 
 -- a sink that nothing was done to gained nothing

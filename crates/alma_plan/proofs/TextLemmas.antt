@@ -5,7 +5,8 @@ use Rattle.alma_base.specs.declared.place.Place.{Place}
 use Rattle.alma_code.specs.Lines.{known_line}
 use Rattle.alma_plan.specs.Plan.{line_of}
 use Rattle.alma_source.specs.Texts.{refusal_line}
-use Rattle.alma_plan.specs.Programs.{line_words, named_words}
+use Rattle.alma_plan.specs.Programs.{named_words}
+use Rattle.alma_run_laws.specs.Shown.{line_text}
 
 -- of a fault whose line is not known
 pub unknown_parts : (program front name end : List ℕ) (line : ℕ) → line ≡ 0 → front ≡ codes ": fault " → end ≡ codes "\n"
@@ -13,7 +14,7 @@ pub unknown_parts : (program front name end : List ℕ) (line : ℕ) → line �
 unknown_parts program front name end line z f e =
     ap (λ x. program ++ (x ++ (name ++ (end ++ [])))) f ∙ ap (λ x. program ++ (codes ": fault " ++ (name ++ (x ++ [])))) e
     ∙ ap (λ x. program ++ (codes ": fault " ++ (x ++ codes "\n"))) (sym (append-nil name))
-    ∙ ap (λ k. line_of program (codes "fault " ++ (name ++ line_words (known_line k)))) (sym z)
+    ∙ ap (λ k. line_of program (codes "fault " ++ (name ++ line_text (known_line k)))) (sym z)
 
 -- and of one whose line is
 pub known_parts : (program front name middle number end : List ℕ) (line : ℕ) → (line ≡ 0 → ⊥) → front ≡ codes ": fault "

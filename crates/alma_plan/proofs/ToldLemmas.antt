@@ -12,7 +12,8 @@ use Rattle.alma_io.specs.Whole.{MayHaveMore}
 use Rattle.alma_ir.specs.Tree.{Program}
 use Rattle.alma_lower_implements.specs.Implements.{state_after, printed_by, line_in}
 use Rattle.alma_lower_sound.specs.Reads.{program_reads}
-use Rattle.alma_plan.specs.Plan.{Due, Ending, Plan, Sense, Reading, Asks, Comes, Fetches, Judges, Reads, Ends, MayBeLeft, silent}
+use Rattle.alma_plan.specs.Plan.{Due, Ending, Plan, Sense, Reading, Asks, Comes, Fetches, Judges, Reads, Ends, silent}
+use Rattle.alma_io.specs.Outside.{MayBeLeft}
 use Rattle.alma_plan.specs.Programs.{Last, Runs, Stores, Means, sense, mode_end, refuse_source, too_much_code, unless_large, run_on}
 use Rattle.alma_plan.specs.Programs.{run_plan}
 use Rattle.alma_plan.specs.Programs.{accept_source, read_source, store_plan, within_size}

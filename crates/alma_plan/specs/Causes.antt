@@ -2,10 +2,10 @@
 use Rattle.std.specs.Prelude.{◌≡◌, ◌≢◌, ◌⊎◌, List, ℕ, [], Some}
 use Rattle.std.specs.Io.KnownBytes.{Appends}
 use Rattle.alma_io.specs.Causes.{Rose}
-use Rattle.alma_io.specs.Outside.{FilesStay, Outside, StoredFile, OthersStay, Become, WriteFailed, WritesGrew, ReadsGrew}
+use Rattle.alma_io.specs.Outside.{FilesStay, Outside, StoredFile, OthersStay, Become, WriteFailed, WritesGrew, ReadsGrew, Gains}
 use Rattle.alma_plan.specs.Plan.{Ending, Due, Plan, Sense, Reading, Asks, MayLack, Lacks, Comes}
 use Rattle.alma_plan.specs.Plan.{read_fault, write_fault, no_memory}
-use Rattle.alma_plan.specs.Course.{Gains, Takes, MayRead, GainsPrefix, Reports}
+use Rattle.alma_plan.specs.Course.{Takes, MayRead, GainsPrefix, Reports}
 
 -- ---- what a call met
 

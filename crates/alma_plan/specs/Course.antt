@@ -5,21 +5,9 @@ use Rattle.alma_base.specs.Limits.{input_limit}
 use Rattle.alma_io.specs.Fronts.{AppendsFront}
 use Rattle.alma_io.specs.Sides.{SinkSide, SourceSide, FilesSide}
 use Rattle.alma_io.specs.Whole.{LosesAtMost, LosesBytes}
-use Rattle.alma_io.specs.Outside.{Outside, HasRisen, FilesStay, StoredFile, OthersStay, Become}
+use Rattle.alma_io.specs.Outside.{Outside, HasRisen, FilesStay, StoredFile, OthersStay, Become, Gains, FailsWithin}
 use Rattle.alma_plan.specs.Plan.{Ending, Due, Plan, Sense, Reading, Kept, Finished, Passed, Asks, Comes, read_fault, write_fault}
 use Rattle.alma_plan.specs.Plan.{no_memory}
-
--- ---- the outputs
-
--- the sink gained these bytes, and did not fail
-pub record Gains (old new : SinkSide) (bytes : List ℕ) : Type 0 where
-  pub bytes_are : Appends old.written new.written bytes
-  pub quiet : new.faults ≡ old.faults
-
--- the sink gained a prefix of these bytes, and failed
-pub record FailsWithin (old new : SinkSide) (bytes : List ℕ) : Type 0 where
-  pub front : AppendsFront old.written new.written bytes
-  pub risen : HasRisen old.faults new.faults
 
 -- ---- the input
 

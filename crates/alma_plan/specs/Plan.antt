@@ -2,7 +2,7 @@
 use Rattle.std.specs.Prelude.{◌≡◌, ◌≤◌, ◌⊎◌, List, ℕ, [], ◌++◌, codes, decimal, length, Option, None, Some}
 use Rattle.alma_base.specs.Limits.{input_limit}
 use Rattle.alma_io.specs.Files.{Told, Missing, Has, MayHave, MayPass}
-use Rattle.alma_io.specs.Outside.{StoredFile}
+use Rattle.alma_io.specs.Outside.{StoredFile, MayBeLeft}
 use Rattle.alma_io.specs.Whole.{MayHaveMore}
 
 -- ---- what is due
@@ -87,11 +87,6 @@ pub data Reading : Type 0 where
   Kept : Reading
   Finished : Reading
   Passed : Reading
-
--- what is left of the input may be these bytes
-abbrev pub MayBeLeft : Option (List ℕ) → List ℕ → Type 0
-MayBeLeft None bytes = Unit {0}
-MayBeLeft (Some left) bytes = left ≡ bytes
 
 module _ {V L : Type 0} (sense : Sense V L) (told : List ℕ → Told) where
   -- the plan may ask for this file, by what the files tell

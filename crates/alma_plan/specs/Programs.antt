@@ -14,7 +14,7 @@ use Rattle.alma_lower_implements.specs.Implements.{state_after, printed_by, line
 use Rattle.alma_lower_sound.specs.Reads.{program_reads}
 use Rattle.alma_object.specs.Fields.{FitsFields}
 use Rattle.alma_object_format.specs.Object.{IsObject}
-use Rattle.alma_run_laws.specs.Shown.{size_of}
+use Rattle.alma_run_laws.specs.Shown.{size_of, line_text}
 use Rattle.alma_run_laws.specs.Stored.{IsCodeFor}
 use Rattle.alma_source.specs.Texts.{refusal_text}
 use Rattle.alma_source.specs.Verdict.{Verdict, Accepted, Rejected, IsVerdict}
@@ -30,14 +30,9 @@ pub data Last : Type 0 where
   Runs : (p : Program) (input : List ℕ) (steps : ℕ) → Last
   Stores : (p : Program) (object : List ℕ) → Last
 
--- the line of a fault, if it is known
-abbrev pub line_words : Option ℕ → List ℕ
-line_words None = []
-line_words (Some line) = codes " line " ++ decimal line
-
 -- what is said of a run that stopped in a fault, by the name of that
 abbrev pub named_words : (name : List ℕ) → (line : ℕ) → List ℕ
-named_words name line = codes "fault " ++ (name ++ line_words (known_line line))
+named_words name line = codes "fault " ++ (name ++ line_text (known_line line))
 
 abbrev pub fault_words : RunFault → (line : ℕ) → List ℕ
 fault_words fault line = named_words (run_fault_text fault) line

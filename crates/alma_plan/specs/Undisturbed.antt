@@ -1,7 +1,6 @@
 -- A call in which nothing fails shows all that is due from its plan.
 use Rattle.std.specs.Prelude.{◌≡◌, ℕ}
-use Rattle.alma_io.specs.Outside.{Become, Outside}
-use Rattle.alma_plan.specs.Course.{Gains}
+use Rattle.alma_io.specs.Outside.{Become, Outside, Gains}
 use Rattle.alma_plan.specs.Plan.{Due}
 
 -- the call shows what is due: its status, what out and err gained, and the files, which stay but for one that is stored

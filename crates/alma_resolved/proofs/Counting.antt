@@ -14,7 +14,7 @@ use Rattle.alma_rules.specs.Scene.{in_constant, inside_of, text_at, literal_at}
 use Rattle.alma_rules.specs.Parts.{Meaning, a_place, plain, a_test, Typing, value_of, test_of, without_place, boolean_typing, Location}
 use Rattle.alma_rules.specs.Parts.{desig_of, Denotation, denotation, select_field, located_in, typing_in, callee_in, argument_of, Callee}
 use Rattle.alma_rules.specs.Parts.{typing_of_call}
-use Rattle.alma_rules.specs.Parts.{Operands, joined_stmts, append_stmts, one_stmt, assignment_stmts, assigned_to, read_as, read_stmts}
+use Rattle.alma_rules.specs.Parts.{Operands, joined_stmts, one_stmt, assignment_stmts, assigned_to, read_as, read_stmts}
 use Rattle.alma_rules.specs.Parts.{write_as}
 use Rattle.alma_rules.specs.Parts.{write_stmts, chain_typing, Span, span_of, append_cases, relation_typing, add_operator, mul_operator}
 use Rattle.alma_rules.specs.ExprRules.{Use, as_variable, as_value, as_procedure, desig_rules, field_rules, array_rules, index_rules}
@@ -32,6 +32,7 @@ use Rattle.alma_rules.specs.Walk.{judge_label, judge_high, judge_labels, judge_c
 use Rattle.alma_rules.specs.Walk.{judge_items, judge_item_tail, judge_line_items, judge_expr, judge_simple, judge_terms, judge_term}
 use Rattle.alma_rules.specs.Walk.{judge_factors, judge_factor, judge_primary, judge_only, judge_value, judge_arguments, judge_argument_tail}
 use Rattle.alma_rules.specs.Walk.{judge_desig, judge_selectors, judge_selector, judge_indices, judge_index_tail}
+use Rattle.alma_rules.proofs.Phrases.{append_phrases}
 use Rattle.alma_resolved.proofs.Fits.{When, when_some, when_none, when_map, when_then, when_both, when_node, when_weaker}
 use Rattle.alma_resolved.proofs.Scenes.{no_faults_right}
 use Rattle.alma_resolved.proofs.Tallies.{only_tally, first_tally, tally_stmts, tally_stmt_tail, tally_stmt, tally_elsifs, tally_else}
@@ -58,12 +59,6 @@ StmtsTally n y = Tally n (stmts_phrases y)
 
 abbrev StmtTally : ℕ → ir.Stmt → Type 0
 StmtTally n y = Tally n (stmt_phrases y)
-
-append_phrases : (x y : ir.Stmts) → stmts_phrases (append_stmts x y) ≡ stmts_phrases x ++ stmts_phrases y
-unfolding expr_phrases
-append_phrases ir.no_stmts y = refl
-append_phrases (ir.more_stmts line x xs) y = ap (λ z. stmt_phrases x ++ z) (append_phrases xs y)
-    ∙ sym (append_assoc (stmt_phrases x) (stmts_phrases xs) (stmts_phrases y))
 
 joined_tally : (n m : ℕ) (p : ir.Stmts × ir.Stmts) → StmtsTally n p.0 → StmtsTally m p.1 → StmtsTally (n + m) (joined_stmts p)
 joined_tally n m p h k = subst (λ ys. Tally (n + m) ys) (sym (append_phrases p.0 p.1)) (tally_join h k)

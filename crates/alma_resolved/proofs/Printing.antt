@@ -13,7 +13,7 @@ use Rattle.alma_rules.specs.Scene.{inside_of, text_at, literal_at}
 use Rattle.alma_rules.specs.Parts.{Meaning, a_place, plain, a_test, Typing, value_of, test_of, without_place, boolean_typing, Location}
 use Rattle.alma_rules.specs.Parts.{desig_of, Denotation, denotation, select_field, located_in, typing_in, callee_in, argument_of, Callee}
 use Rattle.alma_rules.specs.Parts.{typing_of_call}
-use Rattle.alma_rules.specs.Parts.{joined_stmts, append_stmts, one_stmt, assignment_stmts, assigned_to, read_as, read_stmts, write_as}
+use Rattle.alma_rules.specs.Parts.{joined_stmts, one_stmt, assignment_stmts, assigned_to, read_as, read_stmts, write_as}
 use Rattle.alma_rules.specs.Parts.{write_stmts}
 use Rattle.alma_rules.specs.Parts.{Span, append_cases, relation_typing, add_operator, mul_operator}
 use Rattle.alma_rules.specs.ExprRules.{Use, as_variable, as_value, as_procedure, desig_rules, field_rules, array_rules, index_rules}
@@ -38,6 +38,7 @@ use Rattle.alma_ir.specs.Phrases.{StmtPhrase, branches_phrases}
 use Rattle.alma_ir.specs.Checked.{text_bytes}
 use Rattle.alma_rules.specs.Scene.{text_of, between}
 use Rattle.alma_rules.specs.Nodes.{is_selected}
+use Rattle.alma_rules.proofs.Phrases.{append_phrases}
 use Rattle.alma_resolved.proofs.Weights.{weigh_args, weigh_arm, weigh_arms, weigh_by, weigh_desig, weigh_desigs, weigh_else, weigh_elsifs}
 use Rattle.alma_resolved.proofs.Weights.{weigh_expr, weigh_expr_tail, weigh_exprs, weigh_factor, weigh_factors, weigh_label, weigh_labels}
 use Rattle.alma_resolved.proofs.Weights.{weigh_orelses, weigh_primary, weigh_returned, weigh_selector, weigh_selectors, weigh_simple}
@@ -57,12 +58,6 @@ StmtsPrint n y = Prints n (stmts_phrases y)
 
 abbrev StmtPrints : ℕ → ir.Stmt → Type 0
 StmtPrints n y = Prints n (stmt_phrases y)
-
-append_phrases : (x y : ir.Stmts) → stmts_phrases (append_stmts x y) ≡ stmts_phrases x ++ stmts_phrases y
-unfolding expr_phrases
-append_phrases ir.no_stmts y = refl
-append_phrases (ir.more_stmts line x xs) y = ap (λ z. stmt_phrases x ++ z) (append_phrases xs y)
-    ∙ sym (append_assoc (stmt_phrases x) (stmts_phrases xs) (stmts_phrases y))
 
 joined_prints : (n m : ℕ) (p : ir.Stmts × ir.Stmts) → StmtsPrint n p.0 → StmtsPrint m p.1 → StmtsPrint (n + m) (joined_stmts p)
 joined_prints n m p h k = subst (λ ys. Prints (n + m) ys) (sym (append_phrases p.0 p.1)) (prints_join h k)

@@ -18,3 +18,4 @@ pub mod Desigs
 pub mod Stmts
 pub mod Turns
 pub mod Cases
+pub mod Phrases

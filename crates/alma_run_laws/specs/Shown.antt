@@ -1,5 +1,5 @@
 -- What so many steps of a program show, in words of its meaning.
-use Rattle.std.specs.Prelude.{◌≡◌, ◌<◌, ◌+◌, ◌*◌, ◌/◌, suc, ℕ, List}
+use Rattle.std.specs.Prelude.{◌≡◌, ◌<◌, ◌+◌, ◌*◌, ◌/◌, ◌++◌, suc, ℕ, List, [], Option, None, Some, codes, decimal}
 use Rattle.alma_code.specs.Machine.{Mode, Going, Failing, Ended, Stuck}
 use Rattle.alma_ir.specs.Count.{saturate, nodes}
 use Rattle.alma_ir.specs.Tree.{Program}
@@ -16,6 +16,11 @@ abbrev pub MayRunOut : Program → (input : List ℕ) → (steps : ℕ) → Type
 MayRunOut p input steps =
     (level : ℕ) → (end_of (first (ev_program level p input)) ≡ CutOff → ⊥)
     → steps < 32 * (visit_count (first (ev_program level p input)) + 1)
+
+-- the words for the line of a fault, if it is known
+abbrev pub line_text : Option ℕ → List ℕ
+line_text None = []
+line_text (Some line) = codes " line " ++ decimal line
 
 -- the end, in the words of the meaning, of a machine that is left in this mode: cut off where its steps ran out
 abbrev pub shown_end : Mode → (line : ℕ) → End
