@@ -10,24 +10,24 @@ use Rattle.alma_scan.specs.Spellings.{IsWord, look_up, reserved_words}
 use Rattle.alma_driver_words.specs.Words.{IsNumeral, IsName}
 use Rattle.alma_driver_words.proofs.NumberLemmas.{all_pass, pass_all, numeral_passes, passes_numeral}
 use Rattle.alma_driver_words.proofs.NameTests.{IsFreeWord, name_is_free, one_name}
-use Rattle.alma_back.specs.Script.{is_count, count_in, is_word, is_name, name_in, greatest_steps}
+use Rattle.alma_back.specs.Script.{is_count, count_in, is_word, is_name, name_in, count_digits, greatest_count}
 
 -- ---- numbers
 
 -- a number that digits name is one of steps, unless it is 0
-count_is : (text : List ℕ) (count : ℕ) → IsNumeral 7 text count → count ≤ greatest_steps → 1 ≤ count → count_in text ≡ Some count
+count_is : (text : List ℕ) (count : ℕ) → IsNumeral count_digits text count → count ≤ greatest_count → 1 ≤ count → count_in text ≡ Some count
 count_is text count h small some =
-    ap (λ b. cond b (Some (value_of text)) None) (numeral_passes 7 greatest_steps text count h some small) ∙ ap Some h.value
+    ap (λ b. cond b (Some (value_of text)) None) (numeral_passes count_digits greatest_count text count h some small) ∙ ap Some h.value
 
 -- what a number of steps is
 record Counts (text : List ℕ) : Type 0 where
-  numeral : IsNumeral 7 text (value_of text)
-  small : value_of text ≤ greatest_steps
+  numeral : IsNumeral count_digits text (value_of text)
+  small : value_of text ≤ greatest_count
   some : 1 ≤ value_of text
 
 counts : (text : List ℕ) → is_count text ≡ true → Counts text
 counts text e =
-    let passed = passes_numeral 7 greatest_steps text e in record { numeral = passed.0; small = passed.2; some = passed.1 }
+    let passed = passes_numeral count_digits greatest_count text e in record { numeral = passed.0; small = passed.2; some = passed.1 }
 
 -- where none is named
 no_count : (text : List ℕ) → (Counts text → ⊥) → count_in text ≡ None
@@ -38,14 +38,14 @@ no_count text other = by (is_count text) refl
     by true e = absurd (other (counts text e))
 
 -- what reading a numeral answers
-pub count_found : (text : List ℕ) (count : ℕ) → IsNumeral 7 text count × (count ≤ greatest_steps) → (count ≡ 0 → ⊥)
+pub count_found : (text : List ℕ) (count : ℕ) → IsNumeral count_digits text count × (count ≤ greatest_count) → (count ≡ 0 → ⊥)
     → Some count ≡ count_in text
 count_found text count h some = sym (count_is text count h.0 h.1 (omega (arith, some)))
 
-pub count_zero : (text : List ℕ) (count : ℕ) → IsNumeral 7 text count × (count ≤ greatest_steps) → count ≡ 0 → None ≡ count_in text
+pub count_zero : (text : List ℕ) (count : ℕ) → IsNumeral count_digits text count × (count ≤ greatest_count) → count ≡ 0 → None ≡ count_in text
 count_zero text count h zero = sym (no_count text (λ (k : Counts text). absurd (omega (arith, zero, h.0.value, k.some))))
 
-pub count_none : (text : List ℕ) → ((count : ℕ) → IsNumeral 7 text count → count ≤ greatest_steps → ⊥) → None ≡ count_in text
+pub count_none : (text : List ℕ) → ((count : ℕ) → IsNumeral count_digits text count → count ≤ greatest_count → ⊥) → None ≡ count_in text
 count_none text other = sym (no_count text (λ (k : Counts text). other (value_of text) k.numeral k.small))
 
 -- ---- names

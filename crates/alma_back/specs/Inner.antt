@@ -8,7 +8,7 @@ use Rattle.alma_back.specs.declared.end.BackEnd.{BackEnd}
 use Rattle.alma_back.specs.declared.end.BackEnd.TheVariants.{Walked, BadLine, Refused}
 use Rattle.alma_back.specs.declared.script.Line as read
 use Rattle.alma_back.specs.declared.script.Line.TheVariants as of_script
-use Rattle.alma_back.specs.Script.{Line, Forward, Backward, Value, Output, Texts, lines_in, greatest_steps}
+use Rattle.alma_back.specs.Script.{Line, Forward, Backward, Value, Output, Texts, lines_in, greatest_count}
 
 -- ---- lines
 
@@ -24,8 +24,8 @@ lines_of lines = map line_of lines
 
 -- it asks for no more steps than a line may
 abbrev pub IsShort : read.Line → Type 0
-IsShort (of_script.Forward steps) = steps ≤ greatest_steps
-IsShort (of_script.Backward steps) = steps ≤ greatest_steps
+IsShort (of_script.Forward steps) = steps ≤ greatest_count
+IsShort (of_script.Backward steps) = steps ≤ greatest_count
 IsShort (of_script.Value name) = Unit {0}
 IsShort of_script.Output = Unit {0}
 

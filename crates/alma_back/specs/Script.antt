@@ -16,13 +16,16 @@ pub data Line : Type 0 where
   Value : (name : List ℕ) → Line
   Output : Line
 
--- the greatest number of steps of a line
-abbrev pub greatest_steps : ℕ
-greatest_steps = 1000000
+-- the greatest number of steps of a line, and of its digits
+abbrev pub greatest_count : ℕ
+greatest_count = 1000000
 
--- one to seven digits, whose value is from 1 to 1,000,000
+abbrev pub count_digits : ℕ
+count_digits = 7
+
+-- digits, whose value is from 1 on
 abbrev pub is_count : List ℕ → Bool
-is_count text = is_numeral 7 greatest_steps text
+is_count text = is_numeral count_digits greatest_count text
 
 abbrev pub count_in : List ℕ → Option ℕ
 count_in text = cond (is_count text) (Some (value_of text)) None

@@ -1,5 +1,5 @@
 -- What contracts see of a run that is walked both ways.
-use Rattle.std.specs.Prelude.{◌+◌, ◌-◌, ℕ, Bool, cond, List, [], ◌∷◌}
+use Rattle.std.specs.Prelude.{◌+◌, ◌-◌, ◌^◌, ℕ, Bool, cond, List, [], ◌∷◌}
 use Rattle.alma_code.specs.Machine.{State, after, prints, start}
 use Rattle.alma_code.specs.Plain.{PlainCode}
 use Rattle.alma_trace.specs.Cuts.{can_go}
@@ -9,6 +9,10 @@ pub record Standing : Type 0 where
   pub code : PlainCode
   pub input : List ℕ
   pub steps : ℕ
+
+-- as many steps can be kept
+abbrev pub step_limit : ℕ
+step_limit = 2 ^ 39
 
 -- a run before its first step
 abbrev pub begun : PlainCode → (input : List ℕ) → Standing

@@ -13,7 +13,7 @@ ghost use Rattle.alma_memory.specs.Machine.{Scene};
 ghost use Rattle.alma_machine_acts.specs.Steps.{step_result};
 ghost use Rattle.alma_machine.specs.Stands.{Stands};
 ghost use Rattle.alma_back.specs.Kept.{state_in, scene_of, mode_by, old_of as old_of_state};
-ghost use Rattle.alma_back.specs.Standing.{begun, state_of, output_of, runs, stepped_back};
+ghost use Rattle.alma_back.specs.Standing.{begun, state_of, output_of, runs, step_limit, stepped_back};
 
 use alma_back_tape::Tape;
 use alma_base::NoMemory;
@@ -210,7 +210,7 @@ impl<'b, 'i> Back<'b, 'i> {
     /// One step. Where memory is wanted, nothing has happened, and the run still goes on.
     pub fn step(&mut self) -> Result<Step, NoMemory>
         requires running { IsTrue (runs self.old) }
-        requires few { self.old.steps < 2 ^ 39 }
+        requires few { self.old.steps < step_limit }
         ensures answer { IfOk result
             (λ answer. answer ≡ (step self.old.code self.old.input (state_of self.old)).answer) }
         ensures stands { self.new ≡ cond (is_ok result)

@@ -12,7 +12,7 @@ use std::alloc::Global;
 const COUNT_DIGITS: usize = 7;
 
 /// The greatest number of steps of a line.
-const GREATEST_STEPS: u64 = 1_000_000;
+const GREATEST_COUNT: u64 = 1_000_000;
 
 /// A line of a script.
 #[derive(Clone, Copy)]
@@ -31,7 +31,7 @@ pub enum Line<'s> {
 fn count_of(text: &[u8]) -> Option<u64>
     ensures { result ≡ count_in text.now }
 {
-    match numeral(text, COUNT_DIGITS, GREATEST_STEPS) {
+    match numeral(text, COUNT_DIGITS, GREATEST_COUNT) {
         Some(count) => if count == 0 { None } else { Some(count) },
         None => None,
     }

@@ -1,10 +1,11 @@
 // What the lines of a script show.
-ghost use Rattle.std.specs.Prelude.{◌≡◌, ◌≤◌, ◌<◌, ◌+◌, ◌*◌, ◌^◌, length, All, OnOk, OnErr};
+ghost use Rattle.std.specs.Prelude.{◌≡◌, ◌≤◌, ◌<◌, ◌+◌, ◌*◌, length, All, OnOk, OnErr};
 ghost use Rattle.std.specs.Io.KnownBytes.{Appends};
 ghost use Rattle.alma_io.specs.Fronts.{AppendsFront};
 ghost use Rattle.alma_back.specs.Inner.{line_of, lines_of, IsShort, StopsAt};
-ghost use Rattle.alma_back.specs.Script.{greatest_steps};
+ghost use Rattle.alma_back.specs.Script.{greatest_count};
 ghost use Rattle.alma_back.specs.Session.{ahead, behind, after_line, line_text, lines_text, value_text};
+ghost use Rattle.alma_back.specs.Standing.{step_limit};
 
 use crate::back::Back;
 use crate::script::Line;
@@ -16,7 +17,7 @@ use std::alloc::Global;
 
 // So many steps, or as many as there are to the end of the run.
 fn go_forward(back: &mut Back<'_, '_>, most: u64) -> Result<(), NoMemory>
-    requires { back.old.steps + most < 2 ^ 39 }
+    requires { back.old.steps + most < step_limit }
     ensures steps { OnOk result (back.new ≡ ahead back.old most) }
     ensures few { OnOk result (back.new.steps ≤ back.old.steps + most) }
 {
@@ -44,9 +45,9 @@ fn go_back(back: &mut Back<'_, '_>, most: u64)
 // Goes where a line leads.
 fn go(back: &mut Back<'_, '_>, line: Line<'_>) -> Result<(), NoMemory>
     requires short { IsShort line }
-    requires few { back.old.steps + greatest_steps < 2 ^ 39 }
+    requires few { back.old.steps + greatest_count < step_limit }
     ensures stands { OnOk result (back.new ≡ after_line back.old (line_of line.entry)) }
-    ensures few { OnOk result (back.new.steps ≤ back.old.steps + greatest_steps) }
+    ensures few { OnOk result (back.new.steps ≤ back.old.steps + greatest_count) }
 {
     match line {
         Line::Forward(steps) => go_forward(back, steps)?,
@@ -87,9 +88,9 @@ fn show_line<O: Sink>(
     out: &mut O,
 ) -> Result<(), Stop>
     requires short { IsShort line }
-    requires few { back.old.steps + greatest_steps < 2 ^ 39 }
+    requires few { back.old.steps + greatest_count < step_limit }
     ensures stands { OnOk result (back.new ≡ after_line back.old (line_of line.entry)) }
-    ensures few { OnOk result (back.new.steps ≤ back.old.steps + greatest_steps) }
+    ensures few { OnOk result (back.new.steps ≤ back.old.steps + greatest_count) }
     ensures ok { OnOk result (Appends (O.side out.old).written (O.side out.new).written
         (line_text (after_line back.old (line_of line.entry)) (line_of line.entry))) }
     ensures front { OnErr result (AppendsFront (O.side out.old).written (O.side out.new).written
@@ -111,7 +112,7 @@ pub fn show_lines<O: Sink>(
 ) -> Result<(), Stop>
     requires short { All IsShort lines.now }
     requires fresh { back.old.steps ≡ 0 }
-    requires few { length lines.now * greatest_steps < 2 ^ 39 }
+    requires few { length lines.now * greatest_count < step_limit }
     ensures ok { OnOk result (Appends (O.side out.old).written (O.side out.new).written
         (lines_text back.old (lines_of lines.now))) }
     ensures front { OnErr result (AppendsFront (O.side out.old).written (O.side out.new).written
