@@ -11,7 +11,7 @@ use Rattle.alma_mean.specs.Events.{End, CutOff, first, visit_count}
 use Rattle.alma_mean.specs.Laws.{IsPrefix, ends_in_cut}
 use Rattle.alma_mean.specs.Meaning.{ev_program}
 use Rattle.alma_listing.specs.Lister.{listing_of}
-use Rattle.alma_listing.specs.Listing.{alternatives, global_cells, listing_of, listing}
+use Rattle.alma_listing.specs.Listing.{alternatives, global_cells, listing_text, listing}
 use Rattle.alma_io.specs.Outside.{Outside}
 use Rattle.alma_plan.specs.Plan.{Due, Ending, silent, success, tells}
 use Rattle.alma_plan.specs.Meant.{meant_ending}
@@ -43,7 +43,7 @@ pub data IsListed (p : Program) (input : List ℕ) (steps : ℕ) (due : Due) : T
   whole : (end : End) → listing (suc steps) p input ≡ (due.out, end) → due.end ≡ listing_end end → (end ≡ CutOff → ⊥)
       → IsListed p input steps due
   -- the steps ran out: a front of them, which covers one visit of the listing program for each 32 steps
-  front : due.end ≡ tells program 5 (codes "steps out") → IsPrefix due.out (listing_of p.globals (ev_program (suc steps) p input))
+  front : due.end ≡ tells program 5 (codes "steps out") → IsPrefix due.out (listing_text p.globals (ev_program (suc steps) p input))
       → Covers (first (ev_program (suc steps) (listing_of p) input)) due.out (steps / 32) → ListingMayRunOut p input steps
       → IsListed p input steps due
 

@@ -8,7 +8,6 @@ mod module;
 mod routine;
 
 pub use body::Site;
-pub use checked::{Checked, nothing_checked};
+pub use checked::Checked;
 pub use line::Lines;
 pub use module::check;
-pub use routine::{check_block, check_end};

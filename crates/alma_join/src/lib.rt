@@ -13,4 +13,3 @@ mod size;
 
 pub use error::JoinError;
 pub use program::join;
-pub use size::first_too_large;

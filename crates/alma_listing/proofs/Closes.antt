@@ -10,7 +10,7 @@ use Rattle.alma_mean.specs.Events.{Events, NoYield, Visit, Print, Alt, Go, Retur
 use Rattle.alma_mean.specs.Events.{CutOff, join, bind, visit_each, prints, visit_count}
 use Rattle.alma_mean.specs.Laws.{IsPrefix, ends_in_cut}
 use Rattle.alma_listing.specs.Alike.{Alike, on_visit, on_print, on_alt, at_fail, at_fault, at_cut}
-use Rattle.alma_listing.specs.Listing.{line_of_store, listing_of, closes, alternatives}
+use Rattle.alma_listing.specs.Listing.{line_of_store, listing_text, closes, alternatives}
 
 -- at most v visits, these prints and this end, or less where C holds
 pub data Closes (C : Type 0) : (v : ℕ) → (out : List ℕ) → End → Events NoYield → Type 0 where
@@ -124,7 +124,7 @@ c_visited (c_cut c) = c_cut c
 -- prints the line of its store and fails, the listing of the list is printed
 pub lists : {C : Type 0} (V : ℕ) (gs : List Global) {K : Store → Events NoYield} →
     ((t : Store) → length t ≡ 1 → Closes C V (line_of_store gs t) Failed (K t))
-    → {e e2 : Events NoYield} → Alike NoYield 1 (Unit {0}) e e2 → Closes C (visit_count e2 + V * alternatives e2) (listing_of gs e2)
+    → {e e2 : Events NoYield} → Alike NoYield 1 (Unit {0}) e e2 → Closes C (visit_count e2 + V * alternatives e2) (listing_text gs e2)
     (closes e2) (bind e (λ t _. K t))
 lists V gs h (on_visit {f = f} k) = c_more (suc (visit_count f) + V * alternatives f) (c_visit (lists V gs h k)) (omega arith)
 lists V gs h (on_print k) = c_print (lists V gs h k)
@@ -137,7 +137,7 @@ lists V gs h at_cut = c_end
 
 -- ---- a node of it
 
-pub node_listed : (gs : List Global) (e : Events NoYield) → listing_of gs (visit_each e) ≡ listing_of gs e
+pub node_listed : (gs : List Global) (e : Events NoYield) → listing_text gs (visit_each e) ≡ listing_text gs e
 node_listed gs (Visit e) = node_listed gs e
 node_listed gs (Print b e) = ap (λ x. b ++ x) (node_listed gs e)
 node_listed gs (Alt s (Go y) e) = ap (λ x. line_of_store gs s ++ x) (node_listed gs e)

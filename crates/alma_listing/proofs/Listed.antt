@@ -28,7 +28,7 @@ use Rattle.alma_mean.proofs.Results.{further, uncut_lists_stay}
 use Rattle.alma_listing.specs.Alike.{Alike, HaveSame}
 use Rattle.alma_rules.specs.Parts.{append_stmts}
 use Rattle.alma_listing.specs.Lister.{lister, list_and_fail, write_cells, write_globals, listing_of}
-use Rattle.alma_listing.specs.Listing.{line_of_store, listing_of, closes, alternatives, global_cells, ListsAt, Lists, CostsFew}
+use Rattle.alma_listing.specs.Listing.{line_of_store, listing_text, closes, alternatives, global_cells, ListsAt, Lists, CostsFew}
 use Rattle.alma_listing.specs.Listing.{EachIsListed}
 use Rattle.alma_listing.proofs.AlikeLists.{under}
 use Rattle.alma_listing.proofs.Alike.{mean_the_same}
@@ -274,7 +274,7 @@ module _ (name : List ℕ) (gs : List Global) (body : Routine) (rest : List Rout
       -- the program that lists, at each level
       program_closes : (n : ℕ) → Closes (n < cells_sum gs + 3)
           (visit_count (ev_program n p input) + (12 + globals_visits gs) * alternatives (ev_program n p input))
-          (listing_of gs (ev_program n p input)) (closes (ev_program n p input)) (ev_program n q input)
+          (listing_text gs (ev_program n p input)) (closes (ev_program n p input)) (ev_program n q input)
       program_closes zero = c_end
       program_closes (suc m) =
           let lined : Stmts = body_with_lines body in
@@ -287,9 +287,10 @@ module _ (name : List ℕ) (gs : List Global) (body : Routine) (rest : List Rout
           let never : HaveNoReturn lined = stmts_stay IsNoReturn no_return_with body.body body.lines plain in
           let same_events : Alike NoYield 1 (Unit {0}) e2 e = under (λ _. never)
           (mean_the_same p q all_same input (suc m) lined s (calls_lined 0 (omega arith))) in
-          let bound : Closes (Below m) (visit_count e + V * alternatives e) (listing_of gs e) (closes e) (bind e2 (λ t _. K t)) = lists V gs
+          let bound : Closes (Below m) (visit_count e + V * alternatives e) (listing_text gs e) (closes e) (bind e2 (λ t _. K t)) =
+          lists V gs
           (tail_lists m) same_events in
-          let noded : Closes (suc m < cells_sum gs + 3) (suc (visit_count e + V * alternatives e)) (listing_of gs e) (closes e)
+          let noded : Closes (suc m < cells_sum gs + 3) (suc (visit_count e + V * alternatives e)) (listing_text gs e) (closes e)
           (node (bind e2 (λ t _. K t))) = c_visit (c_visited (c_weaker (λ l. omega (arith, l)) bound)) in
           let apart : ev_stmts q input (level q input m) (body_with_lines (routine_at q 0)) s ≡ bind e2 (λ t _. K t) =
           ap (λ x. ev_stmts q input (level q input m) x s)
@@ -299,9 +300,9 @@ module _ (name : List ℕ) (gs : List Global) (body : Routine) (rest : List Rout
           let more : suc (visit_count e + V * alternatives e) ≤ suc (visit_count (visit_each e)) + V * alternatives (visit_each e) = omega
           (arith, products, node_visits e) in
           subst (λ x. Closes (suc m < cells_sum gs + 3) (suc (visit_count (visit_each e)) + V * alternatives (visit_each e))
-          (listing_of gs (visit_each e)) (closes (visit_each e)) (node x)) (sym apart)
+          (listing_text gs (visit_each e)) (closes (visit_each e)) (node x)) (sym apart)
           (subst (λ z. Closes (suc m < cells_sum gs + 3) (suc (visit_count (visit_each e)) + V * alternatives (visit_each e))
-          (listing_of gs (visit_each e)) z (node (bind e2 (λ t _. K t)))) (sym (node_closes e))
+          (listing_text gs (visit_each e)) z (node (bind e2 (λ t _. K t)))) (sym (node_closes e))
           (subst (λ o. Closes (suc m < cells_sum gs + 3) (suc (visit_count (visit_each e)) + V * alternatives (visit_each e)) o (closes e)
           (node (bind e2 (λ t _. K t)))) (sym (node_listed gs e))
           (c_more (suc (visit_count (visit_each e)) + V * alternatives (visit_each e)) noded more)))

@@ -52,14 +52,14 @@ line_of_store gs s = 123 ∷ globals_text s gs ++ (125 ∷ 10 ∷ [])
 -- ---- the listing of a program
 
 -- what is printed, and the line of each alternative that goes on, in their order
-abbrev pub listing_of : List Global → Events NoYield → List ℕ
-listing_of gs (Visit e) = listing_of gs e
-listing_of gs (Print b e) = b ++ listing_of gs e
-listing_of gs (Alt s (Go y) e) = line_of_store gs s ++ listing_of gs e
-listing_of gs (Alt s (Return n) e) = listing_of gs e
-listing_of gs Fail = []
-listing_of gs (Fault x l) = []
-listing_of gs Cut = []
+abbrev pub listing_text : List Global → Events NoYield → List ℕ
+listing_text gs (Visit e) = listing_text gs e
+listing_text gs (Print b e) = b ++ listing_text gs e
+listing_text gs (Alt s (Go y) e) = line_of_store gs s ++ listing_text gs e
+listing_text gs (Alt s (Return n) e) = listing_text gs e
+listing_text gs Fail = []
+listing_text gs (Fault x l) = []
+listing_text gs Cut = []
 
 -- how a list of events closes, behind all its alternatives
 abbrev pub closes : {A : Type 0} → Events A → End
@@ -81,7 +81,7 @@ alternatives Cut = 0
 
 -- every alternative of a program at level n, and how it closes
 abbrev pub listing : ℕ → Program → List ℕ → List ℕ × End
-listing n p input = (listing_of p.globals (ev_program n p input), closes (ev_program n p input))
+listing n p input = (listing_text p.globals (ev_program n p input), closes (ev_program n p input))
 
 -- ---- a program that lists another
 
@@ -93,7 +93,7 @@ global_cells p = sum_by (λ g. g.cells) p.globals
 -- ends; the level that it needs more, and the visits that it makes more, are bounded by the globals
 pub record ListsAt (q p : Program) (n : ℕ) (input : List ℕ) : Type 0 where
   pub none : alternatives (ev_program n q input) ≡ 0
-  pub prefix : IsPrefix (prints (ev_program n q input)) (listing_of p.globals (ev_program n p input))
+  pub prefix : IsPrefix (prints (ev_program n q input)) (listing_text p.globals (ev_program n p input))
   pub whole : ends_in_cut (ev_program n q input) ≡ false →
       (prints (ev_program n q input), closes (ev_program n q input)) ≡ listing n p input
   pub reached : ends_in_cut (ev_program n p input) ≡ false → ends_in_cut (ev_program (n + 128 * (global_cells p + 1)) q input) ≡ false

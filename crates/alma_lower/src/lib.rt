@@ -8,4 +8,4 @@ mod routine;
 mod routines;
 
 pub use lowering::{LowerError, lower};
-pub use routines::{Routines, lower_routines};
+pub use routines::Routines;

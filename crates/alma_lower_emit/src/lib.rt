@@ -16,9 +16,4 @@ mod statement;
 mod test;
 mod walk;
 
-pub use condition::emit_guard;
-pub use designator::{emit_desig, emit_target};
-pub use expression::{emit_expr, emit_value};
-pub use inside::emit_inside;
-pub use test::emit_test;
 pub use walk::emit_stmts;

@@ -18,24 +18,16 @@ pub use alma_lower_work::{
     slot_of, stay_at, straight_slot, taken_by, turned_test, unequal, write_instr,
 };
 pub use back::{put_held, put_held_back};
-pub use call::{Handover, begin_call, first_handed, put_call_link, take_handed, take_result};
-pub use case::{
-    Labels, Miss, end_arm, end_dead, has_dead, put_label, put_label_test, take_labels,
-    then_take_labels,
-};
+pub use call::{Handover, begin_call, take_result};
+pub use case::{Labels, Miss, end_arm, end_dead, has_dead, then_take_labels};
 pub use choice::{
-    begin_commit, begin_each, begin_first, begin_forall, end_both, end_each, end_first, end_forall,
-    end_not, then_begin_each,
+    begin_commit, begin_first, begin_forall, end_both, end_first, end_not, then_begin_each,
 };
 pub use form::{
     begin_place, begin_while, end_repeat, end_truth, put_bind, put_chr, put_index, put_number,
     put_read, put_return, put_set, put_unify,
 };
 pub use label::put_labels;
-pub use leaf::{
-    emit_const, emit_field, emit_line, emit_text, is_plain, slot_behind, slot_past, stand_at,
-};
-pub use loops::{
-    Bounds, Counts, begin_for, begin_some, end_for, put_bounds, put_count, put_counts, put_step,
-};
+pub use leaf::{emit_const, emit_field, emit_line, emit_text, is_plain, slot_past, stand_at};
+pub use loops::{Bounds, Counts, begin_for, begin_some, end_for, put_count, put_step};
 pub use pass::{begin_loop, pass_desig, pass_stmts, pass_unlabelled};

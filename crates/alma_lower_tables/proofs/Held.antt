@@ -20,16 +20,17 @@ use Rattle.alma_lower_tables.proofs.Places.{range_is, text_is}
 use Rattle.alma_lower_templates.specs.CodeOf.{HoldsRange, InTables, HoldsAllOf, HasIntegers, IsOfIntegers}
 use Rattle.alma_lower_templates.specs.Tables.{Tables, same_range, same_text, is_whole, first_place}
 use Rattle.alma_lower_templates.specs.Templates.{char_range}
-use Rattle.alma_lower_tables.specs.AddsPhrases.{unless_whole, checked, checked_result, checked_results, named_ranges, with_entries, Names}
+use Rattle.alma_lower_tables.specs.AddsPhrases.{unless_whole, check_range, checked_result, checked_results, named_ranges, with_entries}
+use Rattle.alma_lower_tables.specs.AddsPhrases.{Names}
 use Rattle.alma_lower_tables.specs.AddsPhrases.{AddsPhrases}
 use Rattle.alma_lower_tables.proofs.Entries.{entries_row, each_row, all_in, all_at, all_each, in_each, in_row_at, held, among, distinct}
 use Rattle.alma_lower_tables.proofs.Entries.{none_distinct}
 use Rattle.alma_lower_tables.proofs.Walks.{then_walked, names_then, names_none}
 
-in_checked : (range : Range) → is_whole range ≡ false → Contains (checked range) range
+in_checked : (range : Range) → is_whole range ≡ false → Contains (check_range range) range
 in_checked range part = subst (λ b. Contains (unless_whole b range) range) (sym part) (0, omega arith, refl)
 
-all_checked : (P : Range → Type 0) (range : Range) → P range → AllByRecursion P (checked range)
+all_checked : (P : Range → Type 0) (range : Range) → P range → AllByRecursion P (check_range range)
 all_checked P range h = by (is_whole range)
   where
     by : (b : Bool) → AllByRecursion P (unless_whole b range)
@@ -112,7 +113,7 @@ results_whole a b xs all i e is h = subst (λ l. Names a b l [])
 
 -- the result of a function
 pub result_named : {T E : Type 0} (r : Result T E) (a b : Tables) (o : Option Range) (range : Range) → o ≡ Some range
-    → OnOk r (Names a b (checked range) []) → OnOk r (Names a b (checked_result o) [])
+    → OnOk r (Names a b (check_range range) []) → OnOk r (Names a b (checked_result o) [])
 result_named r a b o range is h = subst (λ q. OnOk r (Names a b (checked_result q) [])) (sym is) h
 
 pub no_result_named : (a : Tables) (o : Option Range) → o ≡ None → Names a a (checked_result o) []

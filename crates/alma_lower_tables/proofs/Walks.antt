@@ -29,7 +29,7 @@ use Rattle.alma_lower_templates.specs.Tables.{Tables, same_range, same_text}
 use Rattle.alma_lower_templates.specs.Templates.{char_range}
 use Rattle.alma_ir.proofs.Each.{each_of_append}
 use Rattle.alma_lower_tables.specs.Numbers.{with_entry}
-use Rattle.alma_lower_tables.specs.AddsPhrases.{checked, named_ranges, with_entries, Names, AddsPhrases, HasIntegerEnds}
+use Rattle.alma_lower_tables.specs.AddsPhrases.{check_range, named_ranges, with_entries, Names, AddsPhrases, HasIntegerEnds}
 use Rattle.alma_lower_tables.proofs.Entries.{entries_row, each_row}
 
 -- a clause on success that follows from another
@@ -98,7 +98,7 @@ test_walked a b x t is h0 =
     (phrase_walked a a b (P.StmtPhrase (Tree.TestStmt (view.test_of t))) (P.test_phrases (view.test_of t)) (names_none a) tt h0)
 
 pub assign_walked : (a b c d2 : Tables) (x : S.Stmt) (d : D.Desig) (e : E.Expr) (range : Range) → x ≡ S.Assign d e range
-    → Names a b (checked range) [] → AddsPhrases b c (P.desig_phrases (view.desig_of d))
+    → Names a b (check_range range) [] → AddsPhrases b c (P.desig_phrases (view.desig_of d))
     → AddsPhrases c d2 (P.expr_phrases (view.expr_of e))
     → AddsPhrases a d2 (P.stmt_phrases (view.stmt_of x))
 unfolding P.stmts_phrases
@@ -151,7 +151,7 @@ repeat_walked a b c x body t is h0 h1 =
     ((P.stmts_phrases (view.stmts_list body.items)) ++ (P.test_phrases (view.test_of t))) (names_none a) tt
     (then_walked a b c _ _ h0 h1))
 
-pub for_walked : (a b c : Tables) (x : S.Stmt) (l : Loop) → x ≡ S.ForTo l → Names a b (checked l.range) []
+pub for_walked : (a b c : Tables) (x : S.Stmt) (l : Loop) → x ≡ S.ForTo l → Names a b (check_range l.range) []
     → AddsPhrases b c (P.loop_phrases (view.loop_of l)) → AddsPhrases a c (P.stmt_phrases (view.stmt_of x))
 unfolding P.stmts_phrases
 for_walked a b c x l is n h0 =
@@ -159,7 +159,7 @@ for_walked a b c x l is n h0 =
     (ap (λ y. P.stmt_phrases (view.stmt_of y)) is ∙ ap P.stmt_phrases (views.forto_view l))
     (phrase_walked a b c (P.StmtPhrase (Tree.ForTo (view.loop_of l))) (P.loop_phrases (view.loop_of l)) n tt h0)
 
-pub some_walked : (a b c : Tables) (x : S.Stmt) (l : Loop) → x ≡ S.SomeOf l → Names a b (checked l.range) []
+pub some_walked : (a b c : Tables) (x : S.Stmt) (l : Loop) → x ≡ S.SomeOf l → Names a b (check_range l.range) []
     → AddsPhrases b c (P.loop_phrases (view.loop_of l)) → AddsPhrases a c (P.stmt_phrases (view.stmt_of x))
 unfolding P.stmts_phrases
 some_walked a b c x l is n h0 =
@@ -352,7 +352,7 @@ chr_walked a b c x e is n h0 =
     (ap (λ y. P.expr_phrases (view.expr_of y)) is ∙ ap P.expr_phrases (views.chr_view e))
     (phrase_walked a b c (P.ExprPhrase (Tree.Chr (view.expr_of e.value))) (P.expr_phrases (view.expr_of e.value)) n tt h0)
 
-pub by_value_walked : (a b c : Tables) (x : A.Arg) (e : E.Expr) (range : Range) → x ≡ A.Value e range → Names a b (checked range) []
+pub by_value_walked : (a b c : Tables) (x : A.Arg) (e : E.Expr) (range : Range) → x ≡ A.Value e range → Names a b (check_range range) []
     → AddsPhrases b c (P.expr_phrases (view.expr_of e)) → AddsPhrases a c (P.arg_phrases (view.arg_of x))
 unfolding P.stmts_phrases
 by_value_walked a b c x e range is n h0 =
@@ -376,7 +376,7 @@ by_place_walked a b x d is h0 =
     (ap (λ y. P.arg_phrases (view.arg_of y)) is ∙ ap P.arg_phrases (views.byplace_view d))
     (phrase_walked a a b (P.ArgPhrase (Tree.ByPlace (view.desig_of d))) (P.desig_phrases (view.desig_of d)) (names_none a) tt h0)
 
-pub mix_value_walked : (a b c : Tables) (x : A.Arg) (e : E.Expr) (range : Range) → x ≡ A.MixValue e range → Names a b (checked range) []
+pub mix_value_walked : (a b c : Tables) (x : A.Arg) (e : E.Expr) (range : Range) → x ≡ A.MixValue e range → Names a b (check_range range) []
     → AddsPhrases b c (P.expr_phrases (view.expr_of e)) → AddsPhrases a c (P.arg_phrases (view.arg_of x))
 unfolding P.stmts_phrases
 mix_value_walked a b c x e range is n h0 =

@@ -11,5 +11,4 @@ mod quick_record;
 
 pub use alma_code::{End, Step};
 pub use alma_machine_acts::CodeView;
-pub use dispatch::act;
 pub use machine::{Machine, RunEnd, advance};

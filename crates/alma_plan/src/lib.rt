@@ -20,5 +20,5 @@ pub use run::run_program;
 pub use source::{FileStop, tell_file};
 pub use stop::Stop;
 pub use store::store_program;
-pub use telling::{tell_program, tell_refusal};
+pub use telling::tell_program;
 pub use writing::report;

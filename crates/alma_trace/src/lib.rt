@@ -8,7 +8,7 @@ mod step;
 mod tracer;
 mod watch;
 
-pub use line::{put_number, put_three, put_two};
+pub use line::put_number;
 pub use resolve::{push_named, watches};
 pub use tracer::trace;
-pub use watch::{Watch, put_watched};
+pub use watch::Watch;
