@@ -27,7 +27,7 @@ use Rattle.alma_back.specs.Due.{fetch_plan, back_plan, verify_plan, judged_by, p
 use Rattle.alma_back.specs.Script.{Line, Forward, Backward, Value, Output, lines_in}
 use Rattle.alma_back.specs.Session.{after_line, line_text, session, lines_text}
 use Rattle.alma_back.specs.Shown.{ShowsLine, ShowsLines, none, one_more, ShowsWalk, WalksProgram}
-use Rattle.alma_back.specs.Standing.{Standing, begun, state_of, output_of}
+use Rattle.alma_back.specs.Standing.{Standing, standing_at_start, state_of, output_of}
 use Rattle.alma_back.proofs.Alike.{kept_after, shown_alike}
 use Rattle.alma_back.proofs.WordLemmas.{request_plan}
 
@@ -102,7 +102,7 @@ module _ (told : List ℕ → Told) (left : Option (List ℕ)) (reading : Readin
         → ComesOf (walked_on reads code lines) → due ≡ prints (session code input lines)
     on_comes true is has c =
         read_comes plain program told left reading due input (λ bytes. prints (session code bytes lines)) (has is) short c
-    on_comes false quiet has h = h.1 ∙ ap prints (sym (shown_alike input (begun code []) lines quiet))
+    on_comes false quiet has h = h.1 ∙ ap prints (sym (shown_alike input (standing_at_start code []) lines quiet))
 
     judged_comes : (bytes text : List ℕ) → lines_in text ≡ Ok lines → object_refusal program bytes ≡ None → object_code bytes ≡ code
         → (code_reads code ≡ true → left ≡ Some input) → ComesOf (verify_plan bytes text) → due ≡ prints (session code input lines)
@@ -133,7 +133,7 @@ walk_shows words p lines input before after status w causes calm =
     (spelled_accepted program p w.bytes w.spells)
     refl (λ reads. w.left (sym w.spells.code.reads ∙ reads)) read in (
       session code input lines,
-      shows_lines p (begun code input) lines
+      shows_lines p (standing_at_start code input) lines
           (record { implements = w.spells.code.implements; names = w.spells.code.names; short = w.input_short }),
       subst (ShowsDue before after status) is h.3,
     )

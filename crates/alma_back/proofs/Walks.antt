@@ -3,7 +3,7 @@ use Rattle.std.proofs.Common.{◌≡◌, ◌<◌, ◌+◌, ◌-◌, ◌∙◌, �
 use Rattle.std.specs.Prelude.{Bool, true, false, cond, replicate}
 use Rattle.alma_code.specs.Plain.{PlainCode}
 use Rattle.alma_back.specs.Laws.{BackUndoesStep, WalksAreRuns}
-use Rattle.alma_back.specs.Standing.{Standing, Move, Step, Back, begun, runs, next_standing, move_by, move_all}
+use Rattle.alma_back.specs.Standing.{Standing, Move, Step, Back, standing_at_start, runs, next_standing, move_by, move_all}
 
 -- a run of this code and input, so many steps on
 abbrev standing : PlainCode → List ℕ → ℕ → Standing
@@ -78,5 +78,5 @@ pub walks_are_runs : WalksAreRuns
 walks_are_runs code input moves =
     let l = led code input 0 (λ k within. absurd (omega (arith, within))) moves in
     let sum : 0 + l.to ≡ l.to = zero-add l.to in
-    ap (λ (s : Standing). move_all (begun code input) (replicate s.steps Step)) l.is
+    ap (λ (s : Standing). move_all (standing_at_start code input) (replicate s.steps Step)) l.is
     ∙ alone code input 0 l.to (λ k within. l.goes k (omega (arith, within))) ∙ ap (standing code input) sum ∙ sym l.is

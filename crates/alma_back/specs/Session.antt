@@ -2,7 +2,7 @@
 use Rattle.std.specs.Prelude.{◌-◌, ℕ, zero, suc, List, [], ◌∷◌, ◌++◌, codes, decimal, length}
 use Rattle.alma_code.specs.Plain.{PlainCode}
 use Rattle.alma_code.specs.TraceText.{value_of_name}
-use Rattle.alma_back.specs.Standing.{Standing, begun, next_standing, state_of, output_of}
+use Rattle.alma_back.specs.Standing.{Standing, standing_at_start, next_standing, state_of, output_of}
 use Rattle.alma_back.specs.Script.{Line, Forward, Backward, Value, Output}
 
 -- the run so many steps on, or at its end
@@ -47,4 +47,4 @@ lines_text s (line ∷ lines) = line_text (after_line s line) line ++ lines_text
 
 -- what the lines of a script show of a run from its start
 abbrev pub session : PlainCode → (input : List ℕ) → List Line → List ℕ
-session code input lines = lines_text (begun code input) lines
+session code input lines = lines_text (standing_at_start code input) lines

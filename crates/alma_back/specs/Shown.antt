@@ -15,7 +15,7 @@ use Rattle.alma_verify.specs.Bytes.{object_code}
 use Rattle.alma_back.specs.Due.{script_limit}
 use Rattle.alma_back.specs.Script.{Line, Forward, Backward, Value, Output, lines_in}
 use Rattle.alma_back.specs.Session.{after_line, at_text}
-use Rattle.alma_back.specs.Standing.{Standing, begun, state_of}
+use Rattle.alma_back.specs.Standing.{Standing, standing_at_start, state_of}
 use Rattle.alma_back.specs.Words.{AsksToWalk}
 
 -- The words ask to walk a run of this program by these lines: the object spells code of the program, as `alma compile` stores it, the
@@ -54,4 +54,4 @@ pub data ShowsLines (p : Program) : Standing → List Line → (text : List ℕ)
 -- what such a call shows, where nothing fails: a walk of a run of the code that the object's bytes spell
 abbrev pub ShowsWalk : Program → List Line → (input bytes : List ℕ) → (before after : Outside) → (status : ℕ) → Type 0
 ShowsWalk p lines input bytes before after status =
-    (text : List ℕ) × ShowsLines p (begun (object_code bytes) input) lines text × ShowsDue before after status (prints text)
+    (text : List ℕ) × ShowsLines p (standing_at_start (object_code bytes) input) lines text × ShowsDue before after status (prints text)

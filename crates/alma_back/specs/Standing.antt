@@ -15,8 +15,8 @@ abbrev pub step_limit : ℕ
 step_limit = 2 ^ 39
 
 -- a run before its first step
-abbrev pub begun : PlainCode → (input : List ℕ) → Standing
-begun code input = record { code = code; input = input; steps = 0 }
+abbrev pub standing_at_start : PlainCode → (input : List ℕ) → Standing
+standing_at_start code input = record { code = code; input = input; steps = 0 }
 
 -- the state of the copying code machine there
 abbrev pub state_of : Standing → State

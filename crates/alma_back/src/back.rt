@@ -13,7 +13,7 @@ ghost use Rattle.alma_memory.specs.Machine.{Scene};
 ghost use Rattle.alma_machine_acts.specs.Steps.{step_result};
 ghost use Rattle.alma_machine.specs.Stands.{Stands};
 ghost use Rattle.alma_back.specs.Kept.{state_in, scene_of, mode_by, old_of as old_of_state};
-ghost use Rattle.alma_back.specs.Standing.{begun, state_of, output_of, runs, step_limit, stepped_back};
+ghost use Rattle.alma_back.specs.Standing.{standing_at_start, state_of, output_of, runs, step_limit, stepped_back};
 
 use alma_back_tape::Tape;
 use alma_base::NoMemory;
@@ -172,7 +172,7 @@ impl<'b, 'i> Back<'b, 'i> {
     /// A run at its start. The input has at most 16,777,216 bytes.
     pub fn new(alloc: Global, code: Verified<'b>, input: &'i [u8]) -> Result<Back<'b, 'i>, NoMemory>
         requires { length input.now ≤ input_limit }
-        ensures { IfOk result (λ back. back ≡ begun (code_of_verified code.entry) input.now) }
+        ensures { IfOk result (λ back. back ≡ standing_at_start (code_of_verified code.entry) input.now) }
     {
         let memory = first_memory(alloc, &code)?;
         let registers = Registers {

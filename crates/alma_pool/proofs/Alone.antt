@@ -6,7 +6,7 @@ use Rattle.std.specs.Prelude.{◌⊎◌, eqb, cond}
 use Rattle.alma_code.specs.Machine.{State, step, after, prints, start}
 use Rattle.alma_code.specs.Plain.{PlainCode}
 use Rattle.alma_machine.proofs.Budget.{after_more, prints_more, prints_sum}
-use Rattle.alma_pool.specs.Pool.{PlayerState, PoolView, Lone, lone, seen_of, begun, take_turn, no_program, program_at, after_turn}
+use Rattle.alma_pool.specs.Pool.{PlayerState, PoolView, Lone, lone, seen_of, player_at_start, take_turn, no_program, program_at, after_turn}
 use Rattle.alma_pool.specs.Pool.{after_turns}
 use Rattle.alma_pool.specs.Pool.{turns_of, ended_in}
 use Rattle.alma_pool.specs.Laws.{RunAlone, PrintsFront}
@@ -72,7 +72,7 @@ at_turns pool (j ∷ turns) k code input t there h =
     (at_turns (after_turn pool j) turns k code input (t + cond (eqb j k) 1 0) still (at_turn pool j k code input t there h))
 
 -- a program that began is at its start
-pub at_start : (code : PlainCode) (input : List ℕ) (p : PlayerState) → p ≡ begun code input → IsAt code input 0 p
+pub at_start : (code : PlainCode) (input : List ℕ) (p : PlayerState) → p ≡ player_at_start code input → IsAt code input 0 p
 at_start code input p e = record {
   code_is = ap (λ q. q.code) e;
   input_is = ap (λ q. q.input) e;

@@ -10,8 +10,8 @@ use Rattle.alma_code.specs.Plain.{PlainCode}
 use Rattle.alma_verify.specs.Verified.{code_of_verified}
 use Rattle.alma_verify.specs.declared.verified.Verified.{Verified}
 use Rattle.alma_pool.specs.Due.{unless, is_turn, bad_turn_behind, turn_in, turns_in, turns_limit}
-use Rattle.alma_pool.specs.Inner.{codes_of, all_begun}
-use Rattle.alma_pool.specs.Pool.{PlayerState, PoolView, begun, take_turn, no_program, program_at, after_turn, after_turns}
+use Rattle.alma_pool.specs.Inner.{codes_of, players_at_start}
+use Rattle.alma_pool.specs.Pool.{PlayerState, PoolView, player_at_start, take_turn, no_program, program_at, after_turn, after_turns}
 use Rattle.alma_pool.proofs.Players.{pool_of}
 
 -- ---- the bytes of the file
@@ -146,29 +146,32 @@ with_program pool p = record pool { programs = pool.programs ++ p ∷ [] }
 -- the programs of the codes so far, and of one more
 pub gathered : (verified : List Verified) (input : List ℕ) (i : ℕ) (one d : Verified) (old new : PoolView) → i < length verified
     → one ≡ get_or verified i d
-    → old ≡ pool_of (all_begun (codes_of (take i verified)) input) true
-    → new ≡ with_program old (begun (code_of_verified one) input) → new ≡ pool_of (all_begun (codes_of (take (i + 1) verified)) input) true
+    → old ≡ pool_of (players_at_start (codes_of (take i verified)) input) true
+    → new ≡ with_program old (player_at_start (code_of_verified one) input)
+        → new ≡ pool_of (players_at_start (codes_of (take (i + 1) verified)) input) true
 gathered verified input i one d old new within is before more =
     let all : take (i + 1) verified ≡ take i verified ++ one ∷ [] = take_more verified i d within
     ∙ ap (λ x. take i verified ++ x ∷ []) (sym is) in
-    let begin : PlainCode → PlayerState = λ code. begun code input in
-    let split : all_begun (codes_of (take (i + 1) verified)) input ≡ all_begun (codes_of (take i verified)) input
-    ++ begun (code_of_verified one) input ∷ [] =
-    ap (λ xs. all_begun (codes_of xs) input) all ∙ ap (λ cs. all_begun cs input) (map-append code_of_verified (take i verified) (one ∷ []))
+    let begin : PlainCode → PlayerState = λ code. player_at_start code input in
+    let split : players_at_start (codes_of (take (i + 1) verified)) input ≡ players_at_start (codes_of (take i verified)) input
+    ++ player_at_start (code_of_verified one) input ∷ [] =
+    ap (λ xs. players_at_start (codes_of xs) input) all
+        ∙ ap (λ cs. players_at_start cs input) (map-append code_of_verified (take i verified) (one ∷ []))
     ∙ map-append begin (codes_of (take i verified)) (code_of_verified one ∷ []) in
-    more ∙ ap (λ p. with_program p (begun (code_of_verified one) input)) before ∙ ap (λ ps. pool_of ps true) (sym split)
+    more ∙ ap (λ p. with_program p (player_at_start (code_of_verified one) input)) before ∙ ap (λ ps. pool_of ps true) (sym split)
 
 -- codes before their first turn made no step, and are as many as before
-pub begun_fresh : (codes : List PlainCode) (input : List ℕ) → All (λ (p : PlayerState). p.state.steps ≡ 0) (all_begun codes input)
-begun_fresh codes input = All-map (λ (p : PlayerState). p.state.steps ≡ 0) (λ (code : PlainCode). begun code input) codes
+pub begun_fresh : (codes : List PlainCode) (input : List ℕ) → All (λ (p : PlayerState). p.state.steps ≡ 0) (players_at_start codes input)
+begun_fresh codes input = All-map (λ (p : PlayerState). p.state.steps ≡ 0) (λ (code : PlainCode). player_at_start code input) codes
     (λ j d within. refl)
 
-pub begun_count : (verified : List Verified) (input : List ℕ) → length (all_begun (codes_of verified) input) ≡ length verified
-begun_count verified input = length-map (codes_of verified) (λ code. begun code input) ∙ length-map verified code_of_verified
+pub begun_count : (verified : List Verified) (input : List ℕ) → length (players_at_start (codes_of verified) input) ≡ length verified
+begun_count verified input = length-map (codes_of verified) (λ code. player_at_start code input) ∙ length-map verified code_of_verified
 
 -- as many programs as codes, also when the turns were made
-pub played_count : (codes : List PlainCode) (input turns : List ℕ) (before now : PoolView) → before ≡ pool_of (all_begun codes input) true
+pub played_count : (codes : List PlainCode) (input turns : List ℕ) (before now : PoolView)
+    → before ≡ pool_of (players_at_start codes input) true
     → now ≡ after_turns before turns → length now.programs ≡ length codes
 played_count codes input turns before now start is =
     ap (λ (p : PoolView). length p.programs) is ∙ turns_count before turns ∙ ap (λ (p : PoolView). length p.programs) start
-    ∙ length-map codes (λ (code : PlainCode). begun code input)
+    ∙ length-map codes (λ (code : PlainCode). player_at_start code input)

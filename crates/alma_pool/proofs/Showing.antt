@@ -7,8 +7,9 @@ use Rattle.alma_code.specs.declared.step.End.{End}
 use Rattle.alma_code.specs.declared.step.End.TheVariants as ended
 use Rattle.alma_code.specs.Plain.{PlainCode}
 use Rattle.alma_pool.specs.Due.{program_lines, program_text, end_text, pool_text}
-use Rattle.alma_pool.specs.Inner.{end_word, fault_word, shown_text, all_begun}
-use Rattle.alma_pool.specs.Pool.{PlayerState, PoolView, Lone, lone, seen_of, begun, ended_in, no_code, no_program, program_at, after_turns}
+use Rattle.alma_pool.specs.Inner.{end_word, fault_word, shown_text, players_at_start}
+use Rattle.alma_pool.specs.Pool.{PlayerState, PoolView, Lone, lone, seen_of, player_at_start, ended_in, no_code, no_program, program_at}
+use Rattle.alma_pool.specs.Pool.{after_turns}
 use Rattle.alma_pool.specs.Pool.{turns_of}
 use Rattle.alma_pool.proofs.Alone.{run_alone}
 use Rattle.alma_pool.proofs.Players.{pool_of}
@@ -107,15 +108,16 @@ shown_is before (p ∷ ps) (code ∷ codes) input turns e each =
     ∙ ap (λ z. program_text (before + 1) (lone code input (turns_of before turns)) ++ z) rest
 
 -- all turns were made by codes from their start
-pub shown_alone : (codes : List PlainCode) (input turns : List ℕ) (before now : PoolView) → before ≡ pool_of (all_begun codes input) true
+pub shown_alone : (codes : List PlainCode) (input turns : List ℕ) (before now : PoolView)
+    → before ≡ pool_of (players_at_start codes input) true
     → now ≡ after_turns before turns
     → length now.programs ≡ length codes → shown_text 0 now.programs ≡ pool_text 0 codes input turns
 shown_alone codes input turns before now start is count =
     shown_is 0 now.programs codes input turns count (λ k within.
-    let begin : PlainCode → PlayerState = λ code. begun code input in
+    let begin : PlainCode → PlayerState = λ code. player_at_start code input in
     let there : k < length before.programs =
     omega (arith, within, ap (λ (p : PoolView). length p.programs) start, length-map codes begin) in
-    let at : program_at before k ≡ begun (get_or codes k no_code) input =
+    let at : program_at before k ≡ player_at_start (get_or codes k no_code) input =
     ap (λ (p : PoolView). program_at p k) start ∙ get_or-map begin codes k no_code no_program within in
     let none : k ≡ 0 + k = omega arith in
     ap (λ (p : PoolView). seen_of (program_at p k)) is ∙ run_alone before turns k (get_or codes k no_code) input there at

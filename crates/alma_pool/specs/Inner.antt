@@ -12,7 +12,7 @@ use Rattle.alma_plan.specs.declared.refusal.Refusal.{Refusal}
 use Rattle.alma_plan.specs.declared.refusal.Refusal.TheVariants.{Stopped}
 use Rattle.alma_plan.specs.declared.stop.Stop.TheVariants.{Memory}
 use Rattle.alma_pool.specs.Due.{program, opening, program_text}
-use Rattle.alma_pool.specs.Pool.{PlayerState, begun, seen_of}
+use Rattle.alma_pool.specs.Pool.{PlayerState, player_at_start, seen_of}
 
 -- the bytes of files, and the codes of verified views
 abbrev pub all_bytes : List (Vec ℕ) → List (List ℕ)
@@ -26,8 +26,8 @@ abbrev pub IsRefused : (objects : List (List ℕ)) → Refusal → Type 0
 IsRefused objects refusal = (refusal ≡ Stopped Memory) ⊎ (opening [] objects ≡ Err (refusal_end program refusal))
 
 -- codes before their first turn, on one input
-abbrev pub all_begun : List PlainCode → (input : List ℕ) → List PlayerState
-all_begun codes input = map (λ code. begun code input) codes
+abbrev pub players_at_start : List PlainCode → (input : List ℕ) → List PlayerState
+players_at_start codes input = map (λ code. player_at_start code input) codes
 
 -- the words for an end, but for the name of a fault, and that name
 abbrev pub end_word : Option End → List ℕ

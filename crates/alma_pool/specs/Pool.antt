@@ -37,8 +37,8 @@ abbrev pub seen_of : PlayerState → Lone
 seen_of p = record { steps = p.state.steps; output = p.output; end = ended_in p.state.mode }
 
 -- a program before its first turn
-abbrev pub begun : PlainCode → (input : List ℕ) → PlayerState
-begun code input = record { code = code; input = input; state = start code; output = [] }
+abbrev pub player_at_start : PlainCode → (input : List ℕ) → PlayerState
+player_at_start code input = record { code = code; input = input; state = start code; output = [] }
 
 -- after one turn: one step, which changes nothing where the program has ended
 abbrev pub take_turn : PlayerState → PlayerState
@@ -54,7 +54,7 @@ abbrev pub no_code : PlainCode
 no_code = record { version = 0; globals = []; routines = []; ranges = []; texts = []; instrs = []; lines = [] }
 
 abbrev pub no_program : PlayerState
-no_program = begun no_code []
+no_program = player_at_start no_code []
 
 abbrev pub program_at : PoolView → ℕ → PlayerState
 program_at pool k = get_or pool.programs k no_program

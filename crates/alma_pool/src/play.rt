@@ -8,7 +8,7 @@ ghost use Rattle.alma_plan.specs.Course.{Follows, Goes};
 ghost use Rattle.alma_plan.specs.Plan.{Reads, prints, IsDue, plain};
 ghost use Rattle.alma_pool.specs.Due.{program, bad_turn_behind, verify_plan, opening, play_plan, played_on, pool_text, turns_in, turns_limit};
 ghost use Rattle.alma_pool.specs.Ends.{pool_end};
-ghost use Rattle.alma_pool.specs.Inner.{all_begun, all_bytes, codes_of, shown_text};
+ghost use Rattle.alma_pool.specs.Inner.{players_at_start, all_bytes, codes_of, shown_text};
 ghost use Rattle.alma_pool.specs.Pool.{after_turns};
 
 use crate::end::PoolEnd;
@@ -30,7 +30,7 @@ fn gather<'b, 'i>(
 ) -> Result<Pool<'b, 'i>, NoMemory>
     requires { length input.now ≤ input_limit }
     ensures { IfOk result (λ pool. pool ≡ record {
-      programs = all_begun (codes_of verified.now) input.now;
+      programs = players_at_start (codes_of verified.now) input.now;
       whole = true;
     }) }
 {

@@ -2,7 +2,7 @@
 ghost use Rattle.std.specs.Prelude.{◌≡◌, ◌<◌, ◌≤◌, ◌+◌, ◌^◌, [], ◌∷◌, ◌++◌, true, false, length, map, IfOk, OnOk, OnErr, IsTrue};
 ghost use Rattle.alma_base.specs.Limits.{input_limit};
 ghost use Rattle.alma_verify.specs.Verified.{code_of_verified};
-ghost use Rattle.alma_pool.specs.Pool.{OthersStay, ended_in, begun, take_turn, program_at, after_turn};
+ghost use Rattle.alma_pool.specs.Pool.{OthersStay, ended_in, player_at_start, take_turn, program_at, after_turn};
 ghost use Rattle.alma_pool.specs.Ready.{IsReady, played_of};
 
 use alma_base::NoMemory;
@@ -82,7 +82,7 @@ impl<'b, 'i> Pool<'b, 'i> {
         requires lawful { length input.now ≤ input_limit }
         ensures number { IfOk result (λ k. k ≡ length self.old.programs) }
         ensures added { OnOk result (self.new ≡ record self.old {
-          programs = self.old.programs ++ begun (code_of_verified code.entry) input.now ∷ [];
+          programs = self.old.programs ++ player_at_start (code_of_verified code.entry) input.now ∷ [];
         }) }
         ensures refused { OnErr result (self.new ≡ self.old) }
     {
