@@ -10,7 +10,7 @@ ghost use Rattle.alma_source.specs.Texts.{refusal_line, refusal_text};
 use crate::end::{Counts, End};
 use alma_base::{Place, RunFault, Status};
 use alma_code::VerifyFault;
-use alma_io::{Sink, WriteFault, write_parts};
+use alma_io::{Sink, WriteFault, write_all, write_parts};
 use alma_object::ObjectFault;
 use alma_source::SourceFault;
 use itoa::Buffer;
