@@ -11,4 +11,4 @@ BackUndoesStep = (s : Standing) → runs s ≡ true → move_by (move_by s Step)
 abbrev pub WalksAreRuns : Type 0
 WalksAreRuns = (code : PlainCode) (input : List ℕ) (moves : List Move)
     → move_all (standing_at_start code input) (replicate (move_all (standing_at_start code input) moves).steps Step) ≡ move_all
-        (standing_at_start code input) moves
+    (standing_at_start code input) moves

@@ -148,7 +148,7 @@ pub gathered : (verified : List Verified) (input : List ℕ) (i : ℕ) (one d : 
     → one ≡ get_or verified i d
     → old ≡ pool_of (players_at_start (codes_of (take i verified)) input) true
     → new ≡ with_program old (player_at_start (code_of_verified one) input)
-        → new ≡ pool_of (players_at_start (codes_of (take (i + 1) verified)) input) true
+    → new ≡ pool_of (players_at_start (codes_of (take (i + 1) verified)) input) true
 gathered verified input i one d old new within is before more =
     let all : take (i + 1) verified ≡ take i verified ++ one ∷ [] = take_more verified i d within
     ∙ ap (λ x. take i verified ++ x ∷ []) (sym is) in
@@ -156,7 +156,7 @@ gathered verified input i one d old new within is before more =
     let split : players_at_start (codes_of (take (i + 1) verified)) input ≡ players_at_start (codes_of (take i verified)) input
     ++ player_at_start (code_of_verified one) input ∷ [] =
     ap (λ xs. players_at_start (codes_of xs) input) all
-        ∙ ap (λ cs. players_at_start cs input) (map-append code_of_verified (take i verified) (one ∷ []))
+    ∙ ap (λ cs. players_at_start cs input) (map-append code_of_verified (take i verified) (one ∷ []))
     ∙ map-append begin (codes_of (take i verified)) (code_of_verified one ∷ []) in
     more ∙ ap (λ p. with_program p (player_at_start (code_of_verified one) input)) before ∙ ap (λ ps. pool_of ps true) (sym split)
 

@@ -10,7 +10,7 @@ returns-then-line-eq0-clause-ok g c =
     let same = unknown_parts c.args.fault c.args.line _ _ _ c.if-line-eq0.true c.as_slice-front.ensures
     (c.as_bytes-name.ensures.value ∙ c.text.ensures) c.as_slice-end.ensures in
     subst (λ (bytes : List ℕ). OnOk c.write_parts.result
-    (Appends (g.E.Sink.side c.args.err.now).written (g.E.Sink.side c.write_parts.new.err).written bytes)) same c.write_parts.ensures.ok
+    (Appends (g.E.Sink.side c.args.err.now).written (g.E.Sink.side c.write_parts.new.sink).written bytes)) same c.write_parts.ensures.ok
 
 pub returns-clause-ok : goal.returns-clause-ok
 returns-clause-ok g c =
@@ -18,7 +18,7 @@ returns-clause-ok g c =
     (c.as_bytes-name.ensures.value ∙ c.text.ensures) c.as_slice.ensures (c.as_bytes-number.ensures.value ∙ c.format.ensures.text)
     c.as_slice-end.ensures in
     subst (λ (bytes : List ℕ). OnOk c.write_parts-2.result
-    (Appends (g.E.Sink.side c.args.err.now).written (g.E.Sink.side c.write_parts-2.new.err).written bytes)) same
+    (Appends (g.E.Sink.side c.args.err.now).written (g.E.Sink.side c.write_parts-2.new.sink).written bytes)) same
     c.write_parts-2.ensures.ok
 
 pub returns-clause-front : goal.returns-clause-front
@@ -27,5 +27,5 @@ returns-clause-front g c =
     (c.as_bytes-name.ensures.value ∙ c.text.ensures) c.as_slice.ensures (c.as_bytes-number.ensures.value ∙ c.format.ensures.text)
     c.as_slice-end.ensures in
     subst (λ (bytes : List ℕ). OnErr c.write_parts-2.result
-    (AppendsFront (g.E.Sink.side c.args.err.now).written (g.E.Sink.side c.write_parts-2.new.err).written bytes)) same
+    (AppendsFront (g.E.Sink.side c.args.err.now).written (g.E.Sink.side c.write_parts-2.new.sink).written bytes)) same
     c.write_parts-2.ensures.front

@@ -10,7 +10,7 @@ returns-in-None-clause-ok g c =
     let same = numberless_parts c.args.fault _ _ _ (sym c.number.ensures ∙ c.in-None.is) c.as_slice-front.ensures
     c.name-name.ensures c.as_slice-end.ensures in
     subst (λ (bytes : List ℕ). OnOk c.write_parts.result
-    (Appends (g.E.Sink.side c.args.err.now).written (g.E.Sink.side c.write_parts.new.err).written bytes)) same c.write_parts.ensures.ok
+    (Appends (g.E.Sink.side c.args.err.now).written (g.E.Sink.side c.write_parts.new.sink).written bytes)) same c.write_parts.ensures.ok
 
 pub returns-in-Some-clause-ok : goal.returns-in-Some-clause-ok
 returns-in-Some-clause-ok g c =
@@ -18,7 +18,7 @@ returns-in-Some-clause-ok g c =
     c.as_slice-front.ensures c.name-name.ensures c.as_slice.ensures
     (c.as_bytes-number.ensures.value ∙ c.format.ensures.text) c.as_slice-end.ensures in
     subst (λ (bytes : List ℕ). OnOk c.write_parts-in-Some.result
-    (Appends (g.E.Sink.side c.args.err.now).written (g.E.Sink.side c.write_parts-in-Some.new.err).written bytes)) same
+    (Appends (g.E.Sink.side c.args.err.now).written (g.E.Sink.side c.write_parts-in-Some.new.sink).written bytes)) same
     c.write_parts-in-Some.ensures.ok
 
 pub returns-in-Some-clause-front : goal.returns-in-Some-clause-front
@@ -27,5 +27,5 @@ returns-in-Some-clause-front g c =
     c.as_slice-front.ensures c.name-name.ensures c.as_slice.ensures
     (c.as_bytes-number.ensures.value ∙ c.format.ensures.text) c.as_slice-end.ensures in
     subst (λ (bytes : List ℕ). OnErr c.write_parts-in-Some.result
-    (AppendsFront (g.E.Sink.side c.args.err.now).written (g.E.Sink.side c.write_parts-in-Some.new.err).written bytes)) same
+    (AppendsFront (g.E.Sink.side c.args.err.now).written (g.E.Sink.side c.write_parts-in-Some.new.sink).written bytes)) same
     c.write_parts-in-Some.ensures.front

@@ -9,11 +9,11 @@ pub returns-clause-ok : goal.returns-clause-ok
 returns-clause-ok g c =
     let same = rule_parts _ c.args.rule.now _ c.args.at.now _ c.as_slice-front.ensures c.as_slice-blank.ensures c.as_slice-end.ensures in
     subst (λ (bytes : List ℕ). OnOk c.write_parts.result
-    (Appends (g.E.Sink.side c.args.err.now).written (g.E.Sink.side c.write_parts.new.err).written bytes)) same c.write_parts.ensures.ok
+    (Appends (g.E.Sink.side c.args.err.now).written (g.E.Sink.side c.write_parts.new.sink).written bytes)) same c.write_parts.ensures.ok
 
 pub returns-clause-front : goal.returns-clause-front
 returns-clause-front g c =
     let same = rule_parts _ c.args.rule.now _ c.args.at.now _ c.as_slice-front.ensures c.as_slice-blank.ensures c.as_slice-end.ensures in
     subst (λ (bytes : List ℕ). OnErr c.write_parts.result
-    (AppendsFront (g.E.Sink.side c.args.err.now).written (g.E.Sink.side c.write_parts.new.err).written bytes)) same
+    (AppendsFront (g.E.Sink.side c.args.err.now).written (g.E.Sink.side c.write_parts.new.sink).written bytes)) same
     c.write_parts.ensures.front
