@@ -16,7 +16,7 @@ use Rattle.alma_machine.proofs.Budget.{Progress, made_is, out_front}
 use Rattle.alma_machine.specs.declared.machine.RunEnd.{RunEnd}
 use Rattle.alma_machine.specs.declared.machine.RunEnd.TheVariants as run
 use Rattle.alma_machine.specs.Runs.{OnWriteFault, OnMemory, made}
-use Rattle.alma_machine.specs.Steps.{IsLive, ModeAfter, stepped}
+use Rattle.alma_machine.specs.Steps.{IsLive, ModeAfter, step_result}
 use Rattle.alma_machine.specs.View.{MachineView, goes_on}
 use Rattle.alma_io.specs.Fronts.{AppendsFront}
 use Rattle.alma_trace.specs.Cuts.{IsCut, OnCut, can_go}
@@ -65,7 +65,7 @@ front_none old watches = record { lines = λ behind k. ap (lines_of old watches 
 
 -- one step more: its line, and what is behind it where it goes on
 lines_then : (old now new : MachineView) (watches : List Watch) (m : ℕ) (a : Step) → IsFront old watches m → Progress old now m
-    → stepped a new.printed new.state ≡ step now.code now.input now.state → (behind : List (List (List ℕ))) (k : ℕ)
+    → step_result a new.printed new.state ≡ step now.code now.input now.state → (behind : List (List (List ℕ))) (k : ℕ)
     → lines_of old watches behind (m + suc k)
     ≡ lines_of old watches [] m ++ (traced_words old.code watches a new.printed new.state
     ++ unless_done a (λ _. run_lines old.code old.input watches behind k new.state))
@@ -79,7 +79,7 @@ lines_then old now new watches m a front p done behind k =
 
 -- the lines with one step more
 lines_more : (old now new : MachineView) (watches : List Watch) (m : ℕ) (a : Step) → IsFront old watches m → Progress old now m
-    → stepped a new.printed new.state ≡ step now.code now.input now.state
+    → step_result a new.printed new.state ≡ step now.code now.input now.state
     → lines_of old watches [] (m + 1) ≡ lines_of old watches [] m ++ traced_words old.code watches a new.printed new.state
 lines_more old now new watches m a front p done =
     let words : List (List (List ℕ)) = traced_words old.code watches a new.printed new.state in
@@ -89,7 +89,7 @@ lines_more old now new watches m a front p done =
 
 -- the text with one step more
 pub text_more : (old now new : MachineView) (watches : List Watch) (m : ℕ) (a : Step) → IsFront old watches m → Progress old now m
-    → stepped a new.printed new.state ≡ step now.code now.input now.state
+    → step_result a new.printed new.state ≡ step now.code now.input now.state
     → text_of old watches (m + 1) ≡ text_of old watches m ++ step_text old.code watches a new.printed new.state
 text_more old now new watches m a front p done =
     ap (flat_map text_line) (lines_more old now new watches m a front p done)
@@ -98,7 +98,7 @@ text_more old now new watches m a front p done =
 -- with a step that goes on none ended the run
 pub front_more : (old now new : MachineView) (watches : List Watch) (m : ℕ) (a : Step) → IsFront old watches m → Progress old now m
     → Progress old new (m + 1)
-    → stepped a new.printed new.state ≡ step now.code now.input now.state → goes_on a ≡ true → IsFront old watches (m + 1)
+    → step_result a new.printed new.state ≡ step now.code now.input now.state → goes_on a ≡ true → IsFront old watches (m + 1)
 front_more old now new watches m a front p q done goes = record {
   lines = λ behind k.
       let sum : (m + 1) + k ≡ m + suc k = omega arith in
@@ -115,7 +115,7 @@ front_more old now new watches m a front p q done goes = record {
 -- with the step that ends the run the text is whole
 pub text_whole : (old now new : MachineView) (watches : List Watch) (m budget : ℕ) (a : Step) (e : End) → IsFront old watches m
     → Progress old now m
-    → stepped a new.printed new.state ≡ step now.code now.input now.state → a ≡ answer.Done e → m < budget
+    → step_result a new.printed new.state ≡ step now.code now.input now.state → a ≡ answer.Done e → m < budget
     → text_of_run old.code old.input watches budget old.state ≡ text_of old watches m ++ step_text old.code watches a new.printed new.state
 text_whole old now new watches m budget a e front p done is lt =
     let k : ℕ = budget - (m + 1) in
@@ -154,7 +154,7 @@ within_now old new watches m budget front p =
 
 -- and goes on with the line of the last
 pub within_then : (old now new : MachineView) (watches : List Watch) (m budget : ℕ) (a : Step) → IsFront old watches m → Progress old now m
-    → Progress old new (m + 1) → stepped a new.printed new.state ≡ step now.code now.input now.state
+    → Progress old new (m + 1) → step_result a new.printed new.state ≡ step now.code now.input now.state
     → traced_within old.code old.input watches (made old new) budget old.state
     ≡ text_of old watches m ++ (step_text old.code watches a new.printed new.state
     ++ flat_map text_line (unless_done a (λ _. end_within (m + 1) budget)))
