@@ -1,14 +1,13 @@
 // What each table answers on its happy path and at its limits.
-ghost use Rattle.std.specs.Prelude.{◌≡◌, ◌+◌, ◌^◌, ◌<◌, ◌≤◌, ◌≤ℤ◌, pos, Some, slice_get, length, IfOk, OnOk};
+ghost use Rattle.std.specs.Prelude.{◌≡◌, ◌+◌, ◌^◌, ◌<◌, ◌≤◌, ◌≤ℤ◌, pos, [], ◌∷◌, Some, slice_get, length, codes, IfOk, OnOk};
 ghost use Rattle.alma_names.specs.Scopes.{first_blocks, with_new_block, entry_count};
-ghost use Rattle.alma_names.specs.Shapes.{integer, first_shapes};
+ghost use Rattle.alma_names.specs.Shapes.{integer, first_shapes, field_of, fields_of};
 
-use alma_base::{NoMemory, Range};
+use alma_base::Range;
 use alma_names::{
     Access, DeclareError, Entry, FieldOf, Id, Scopes, Shape, ShapeError, ShapeId, Shapes,
 };
 use std::alloc::{AllocError, Global};
-use std::test::Fail;
 
 const INTEGER: ShapeId = ShapeId(0);
 
@@ -46,12 +45,11 @@ fn add_row(
     shapes.add(alloc, Shape::Row { index, element })
 }
 
-#[derive(Clone, Copy, Debug)]
+// What stands in a row: characters, records with no fields, or ARRAY [1..n] OF CHAR.
+#[derive(Clone, Copy)]
 enum Element {
     Char,
-    // a record with no fields
     Nothing,
-    // ARRAY [1..n] OF CHAR
     Row(i64),
 }
 
@@ -80,41 +78,46 @@ fn add_cells(
 }
 
 // The same in a table of its own.
-fn row_cells(alloc: Global, count: i64, element: Element) -> Result<u32, ShapeError>
-    requires { pos 1 ≤ℤ count }
-{
+fn row_cells(alloc: Global, count: i64, element: Element) -> Result<u32, ShapeError> {
     match Shapes::new(alloc) {
-        Ok(mut shapes) => add_cells(alloc, &mut shapes, count, element),
+        Ok(mut shapes) => add_cells(alloc, &mut shapes, count.max(1), element),
         Err(_error) => Err(ShapeError::Memory),
     }
 }
 
+const LARGE: Result<u32, ShapeError> = Err(ShapeError::TooLarge);
+
+const CELLS: [(i64, Element, Result<u32, ShapeError>); 10] = [
+    (1_048_576, Element::Char, Ok(1_048_576)),
+    (1_048_577, Element::Char, LARGE),
+    (i64::MAX, Element::Char, LARGE),
+    (1_048_576, Element::Nothing, Ok(0)),
+    (1_048_577, Element::Nothing, LARGE),
+    (1_024, Element::Row(1_024), Ok(1_048_576)),
+    (1_025, Element::Row(1_024), LARGE),
+    (1, Element::Row(1_048_576), Ok(1_048_576)),
+    (2, Element::Row(1_048_576), LARGE),
+    (1, Element::Row(1_048_577), LARGE),
+];
+
+// The first row whose cells are others, and those.
+fn other_cells(alloc: Global) -> Option<(usize, Result<u32, ShapeError>)> {
+    for (number, (count, element, want)) in CELLS.iter().enumerate() {
+        let found = row_cells(alloc, *count, *element);
+        if found != *want {
+            return Some((number, found));
+        }
+    }
+    None
+}
+
 #[test]
 fn a_row_has_up_to_1048576_cells_and_elements(rt: HostRuntime) {
-    let large = Err(ShapeError::TooLarge);
-    for (count, element, want) in [
-        (1_048_576, Element::Char, Ok(1_048_576)),
-        (1_048_577, Element::Char, large),
-        (i64::MAX, Element::Char, large),
-        (1_048_576, Element::Nothing, Ok(0)),
-        (1_048_577, Element::Nothing, large),
-        (1_024, Element::Row(1_024), Ok(1_048_576)),
-        (1_025, Element::Row(1_024), large),
-        (1, Element::Row(1_048_576), Ok(1_048_576)),
-        (2, Element::Row(1_048_576), large),
-        (1, Element::Row(1_048_577), large),
-    ] {
-        assert_eq!(rt;
-            row_cells(rt.alloc(), count, element),
-            want,
-            "at {count} of {element:?}"
-        );
-    }
+    assert_eq!(rt; other_cells(rt.alloc()), None);
 }
 
 fn named(alloc: Global, name: &[u8], shape: ShapeId) -> Result<FieldOf, AllocError>
-    ensures name { IfOk result (λ field. field.name.items ≡ name.now) }
-    ensures shape { IfOk result (λ field. field.shape ≡ shape) }
+    ensures { IfOk result (λ field. field_of field ≡ record { name = name.now; offset = 9; shape = shape.0 }) }
 {
     Ok(FieldOf {
         name: name.to_vec(alloc)?,
@@ -123,13 +126,31 @@ fn named(alloc: Global, name: &[u8], shape: ShapeId) -> Result<FieldOf, AllocErr
     })
 }
 
+// a: `nothing`; b: `row`; A: INTEGER
+fn put_fields(
+    alloc: Global,
+    fields: &mut Vec<FieldOf>,
+    nothing: ShapeId,
+    row: ShapeId,
+) -> Result<(), AllocError>
+    requires { fields.old.items ≡ [] }
+    ensures { OnOk result (fields_of fields.new.items ≡ record { name = codes "a"; offset = 9; shape = nothing.0 }
+        ∷ record { name = codes "b"; offset = 9; shape = row.0 }
+        ∷ record { name = codes "A"; offset = 9; shape = 0 } ∷ []) }
+{
+    fields.push(named(alloc, b"a", nothing)?)?;
+    fields.push(named(alloc, b"b", row)?)?;
+    fields.push(named(alloc, b"A", INTEGER)?)?;
+    Ok(())
+}
+
 // RECORD a: RECORD END; b: row; A: INTEGER END, where `nothing` is a record with no fields
 fn add_record(
     alloc: Global,
     shapes: &mut Shapes,
     nothing: ShapeId,
     row: ShapeId,
-) -> Result<ShapeId, Fail>
+) -> Result<ShapeId, ShapeError>
     requires nothing { nothing.0 < length shapes.old }
     requires row { row.0 < length shapes.old }
     requires integer { 0 < length shapes.old }
@@ -138,25 +159,35 @@ fn add_record(
     ensures kept { length shapes.old ≤ length shapes.new }
 {
     let mut fields = Vec::new(alloc);
-    fields.push(named(alloc, b"a", nothing)?)?;
-    fields.push(named(alloc, b"b", row)?)?;
-    fields.push(named(alloc, b"A", INTEGER)?)?;
-    Ok(shapes.add(alloc, Shape::Fields { fields })?)
+    match put_fields(alloc, &mut fields, nothing, row) {
+        Ok(()) => shapes.add(alloc, Shape::Fields { fields }),
+        Err(_error) => Err(ShapeError::Memory),
+    }
 }
 
-// A record with no fields, ARRAY [1..3] OF CHAR, and the record of both.
-#[derive(Clone, Copy)]
-struct Ids {
-    nothing: ShapeId,
-    row: ShapeId,
-    record: ShapeId,
+// A field's offset and shape.
+type Found = Option<(u32, ShapeId)>;
+
+// The fields of that record, one that it has not, and one of the row.
+fn find_fields(shapes: &Shapes, row: ShapeId, both: ShapeId) -> [Found; 5]
+    requires row { row.0 < length shapes.now }
+    requires both { both.0 < length shapes.now }
+{
+    [
+        shapes.field(both, b"a"),
+        shapes.field(both, b"b"),
+        shapes.field(both, b"A"),
+        shapes.field(both, b"B"),
+        shapes.field(row, b"a"),
+    ]
 }
 
-// Adds them to a new table.
-fn add_all(alloc: Global, shapes: &mut Shapes) -> Result<Ids, Fail>
+// The cells of a record, and fields.
+type Fields = (u32, [Found; 5]);
+
+// Adds a record with no fields, ARRAY [1..3] OF CHAR, and the record of both to a new table.
+fn add_fields(alloc: Global, shapes: &mut Shapes) -> Result<Fields, ShapeError>
     requires { shapes.old ≡ first_shapes }
-    ensures row { IfOk result (λ ids. ids.row.0 < length shapes.new) }
-    ensures record { IfOk result (λ ids. ids.record.0 < length shapes.new) }
 {
     let nothing = shapes.add(
         alloc,
@@ -165,77 +196,30 @@ fn add_all(alloc: Global, shapes: &mut Shapes) -> Result<Ids, Fail>
         },
     )?;
     let row = add_row(alloc, shapes, 3, CHAR)?;
-    let record = add_record(alloc, shapes, nothing, row)?;
-    Ok(Ids {
-        nothing,
-        row,
-        record,
-    })
+    let both = add_record(alloc, shapes, nothing, row)?;
+    Ok((shapes.cells(both), find_fields(shapes, row, both)))
 }
 
-// A field's offset and shape.
-type Found = Option<(u32, ShapeId)>;
-
-// The fields of the record, one that it has not, and one of the row.
-fn find_fields(shapes: &Shapes, ids: Ids) -> [Found; 5]
-    requires row { ids.row.0 < length shapes.now }
-    requires record { ids.record.0 < length shapes.now }
-{
-    [
-        shapes.field(ids.record, b"a"),
-        shapes.field(ids.record, b"b"),
-        shapes.field(ids.record, b"A"),
-        shapes.field(ids.record, b"B"),
-        shapes.field(ids.row, b"a"),
-    ]
+// The same in a table of its own.
+fn show_fields(alloc: Global) -> Result<Fields, ShapeError> {
+    match Shapes::new(alloc) {
+        Ok(mut shapes) => add_fields(alloc, &mut shapes),
+        Err(_error) => Err(ShapeError::Memory),
+    }
 }
 
-// The shapes, the cells of the record, and those fields.
-fn show_fields(alloc: Global) -> Result<(Ids, u32, [Found; 5]), Fail> {
-    let mut shapes = Shapes::new(alloc)?;
-    let ids = add_all(alloc, &mut shapes)?;
-    let cells = shapes.cells(ids.record);
-    Ok((ids, cells, find_fields(&shapes, ids)))
-}
+// The record with no fields is shape 3, and the row shape 5.
+const FIELDS: [Found; 5] = [
+    Some((0, ShapeId(3))),
+    Some((0, ShapeId(5))),
+    Some((3, INTEGER)),
+    None,
+    None,
+];
 
 #[test]
-fn fields_stand_behind_each_other(rt: HostRuntime) -> Result<(), Fail> {
-    let (ids, cells, found) = show_fields(rt.alloc())?;
-    let first = Some((0, ids.nothing));
-    let second = Some((0, ids.row));
-    let want = [first, second, Some((3, INTEGER)), None, None];
-    assert_eq!(rt; (cells, found), (4, want));
-    Ok(())
-}
-
-// (red, green, blue); [1..2] of it; ARRAY of BOOLEAN over that
-#[derive(Drop)]
-struct Colours {
-    shapes: Shapes,
-    all: ShapeId,
-    some: ShapeId,
-    row: ShapeId,
-    ghost within: { (3 ≤ length shapes) × (all.0 < length shapes) × (some.0 < length shapes) × (row.0 < length shapes) },
-}
-
-fn make_colours(alloc: Global) -> Result<Colours, Fail> {
-    let mut shapes = Shapes::new(alloc)?;
-    let all = shapes.add(alloc, Shape::Listed { count: 3 })?;
-    let range = Range { low: 1, high: 2 };
-    let some = shapes.add(alloc, Shape::Sub { base: all, range })?;
-    let row = shapes.add(
-        alloc,
-        Shape::Row {
-            index: some,
-            element: BOOLEAN,
-        },
-    )?;
-    Ok(Colours {
-        shapes,
-        all,
-        some,
-        row,
-    })
+fn fields_stand_behind_each_other(rt: HostRuntime) {
+    assert_eq!(rt; show_fields(rt.alloc()), Ok((4, FIELDS)));
 }
 
 // The least and the greatest value of a shape, and its base.
@@ -245,41 +229,62 @@ type Bounds = (Option<(i64, i64)>, ShapeId);
 fn bounds(shapes: &Shapes, id: ShapeId) -> Bounds
     requires { id.0 < length shapes.now }
 {
-    let range = shapes.range(id).map(|range| (range.low, range.high));
-    (range, shapes.base(id))
+    match shapes.range(id) {
+        Some(range) => (Some((range.low, range.high)), shapes.base(id)),
+        None => (None, shapes.base(id)),
+    }
 }
 
-// Those of the shapes that each table has, and of the three others.
-fn all_bounds(made: &Colours) -> [Bounds; 6] {
+// Those of the six shapes of a table.
+fn all_bounds(shapes: &Shapes) -> [Bounds; 6]
+    requires { 6 ≤ length shapes.now }
+{
     [
-        bounds(&made.shapes, INTEGER),
-        bounds(&made.shapes, CHAR),
-        bounds(&made.shapes, BOOLEAN),
-        bounds(&made.shapes, made.all),
-        bounds(&made.shapes, made.some),
-        bounds(&made.shapes, made.row),
+        bounds(shapes, ShapeId(0)),
+        bounds(shapes, ShapeId(1)),
+        bounds(shapes, ShapeId(2)),
+        bounds(shapes, ShapeId(3)),
+        bounds(shapes, ShapeId(4)),
+        bounds(shapes, ShapeId(5)),
     ]
 }
 
-// How many cells the array has, and whether it is one.
-fn show_row(made: &Colours) -> (u32, bool) {
-    let is_row = matches!(made.shapes.get(made.row), Shape::Row { .. });
-    (made.shapes.cells(made.row), is_row)
+// Those, how many cells the array has, and whether it is one.
+type Colours = ([Bounds; 6], u32, bool);
+
+// Adds (red, green, blue), [1..2] of it, and ARRAY of BOOLEAN over that to a new table.
+fn add_colours(alloc: Global, shapes: &mut Shapes) -> Result<Colours, ShapeError>
+    requires { shapes.old ≡ first_shapes }
+{
+    let base = shapes.add(alloc, Shape::Listed { count: 3 })?;
+    let range = Range { low: 1, high: 2 };
+    let index = shapes.add(alloc, Shape::Sub { base, range })?;
+    let element = BOOLEAN;
+    let row = shapes.add(alloc, Shape::Row { index, element })?;
+    let is_row = matches!(shapes.get(row), Shape::Row { .. });
+    Ok((all_bounds(shapes), shapes.cells(row), is_row))
 }
 
+// The same in a table of its own.
+fn show_colours(alloc: Global) -> Result<Colours, ShapeError> {
+    match Shapes::new(alloc) {
+        Ok(mut shapes) => add_colours(alloc, &mut shapes),
+        Err(_error) => Err(ShapeError::Memory),
+    }
+}
+
+const BOUNDS: [Bounds; 6] = [
+    (Some((i64::MIN, i64::MAX)), INTEGER),
+    (Some((0, 255)), CHAR),
+    (Some((0, 1)), BOOLEAN),
+    (Some((0, 2)), ShapeId(3)),
+    (Some((1, 2)), ShapeId(3)),
+    (None, ShapeId(5)),
+];
+
 #[test]
-fn ranges_and_bases(rt: HostRuntime) -> Result<(), Fail> {
-    let made = make_colours(rt.alloc())?;
-    let want = [
-        (Some((i64::MIN, i64::MAX)), INTEGER),
-        (Some((0, 255)), CHAR),
-        (Some((0, 1)), BOOLEAN),
-        (Some((0, 2)), made.all),
-        (Some((1, 2)), made.all),
-        (None, made.row),
-    ];
-    assert_eq!(rt; (all_bounds(&made), show_row(&made)), (want, (2, true)));
-    Ok(())
+fn ranges_and_bases(rt: HostRuntime) {
+    assert_eq!(rt; show_colours(rt.alloc()), Ok((BOUNDS, 2, true)));
 }
 
 // What a name stands for at a token.
@@ -294,38 +299,45 @@ const OUTER: Entry = Entry::Routine(1);
 
 const INNER: Entry = Entry::Variable(CHAR, Access::Local(2));
 
-// One empty block on the lowest.
-fn one_block(alloc: Global) -> Result<Scopes, NoMemory>
-    ensures { IfOk result (λ scopes. scopes ≡ with_new_block first_blocks) }
+// Opens a block.
+fn open(alloc: Global, scopes: &mut Scopes) -> Result<(), DeclareError>
+    ensures { OnOk result (scopes.new ≡ with_new_block scopes.old) }
 {
-    let mut scopes = Scopes::new(alloc)?;
-    scopes.push_block(alloc)?;
-    Ok(scopes)
+    match scopes.push_block(alloc) {
+        Ok(()) => Ok(()),
+        Err(_error) => Err(DeclareError::Memory),
+    }
 }
 
+// What a name stands for at two places.
+type Meanings = (Option<Entry>, Option<Entry>);
+
 // Declares `x` from `outer` on, and in a block on that from `inner` on.
-fn declare_in_two(alloc: Global, scopes: &mut Scopes, outer: u32, inner: u32) -> Result<(), Fail>
-    requires { scopes.old ≡ with_new_block first_blocks }
+fn declare_in_two(
+    alloc: Global,
+    scopes: &mut Scopes,
+    outer: u32,
+    inner: u32,
+) -> Result<(), DeclareError>
+    requires { scopes.old ≡ first_blocks }
     ensures { OnOk result (0 < length scopes.new.below) }
 {
+    open(alloc, scopes)?;
     scopes.declare(alloc, b"x", outer, OUTER)?;
-    scopes.push_block(alloc)?;
+    open(alloc, scopes)?;
     scopes.declare(alloc, b"x", inner, INNER)?;
     Ok(())
 }
 
 // What `x` stands for at a token in both blocks, and at the token 9 where the higher one is closed.
-type Meanings = (Option<Entry>, Option<Entry>);
-
-// Declares it in both.
 fn mean_in_two(
     alloc: Global,
     scopes: &mut Scopes,
     outer: u32,
     inner: u32,
     at: u32,
-) -> Result<Meanings, Fail>
-    requires { scopes.old ≡ with_new_block first_blocks }
+) -> Result<Meanings, DeclareError>
+    requires { scopes.old ≡ first_blocks }
 {
     declare_in_two(alloc, scopes, outer, inner)?;
     let both = meaning(scopes, b"x", at);
@@ -333,123 +345,117 @@ fn mean_in_two(
     Ok((both, meaning(scopes, b"x", 9)))
 }
 
-// The same in blocks of their own.
-fn meanings(alloc: Global, outer: u32, inner: u32, at: u32) -> Result<Meanings, Fail> {
-    let mut scopes = one_block(alloc)?;
-    mean_in_two(alloc, &mut scopes, outer, inner, at)
-}
-
-const TWO_BLOCKS: [(u32, u32, u32, Option<Entry>); 9] = [
-    (3, 7, 2, None),
-    (3, 7, 3, Some(OUTER)),
-    (3, 7, 6, Some(OUTER)),
-    (3, 7, 7, Some(INNER)),
-    (7, 3, 2, None),
-    (7, 3, 3, Some(INNER)),
-    (7, 3, 9, Some(INNER)),
-    (5, 5, 4, None),
-    (5, 5, 5, Some(INNER)),
-];
-
-#[test]
-fn the_highest_block_in_which_a_name_is_visible_counts(rt: HostRuntime) -> Result<(), Fail> {
-    for (outer, inner, at, want) in &TWO_BLOCKS {
-        let found = meanings(rt.alloc(), *outer, *inner, *at)?;
-        assert_eq!(rt;
-            found,
-            (*want, Some(OUTER)),
-            "from {outer} and {inner} at {at}"
-        );
+// What `x` and `X` stand for in one block, where each is found as it was declared, and `X` is refused once more.
+fn declare_cases(alloc: Global, scopes: &mut Scopes) -> Result<Meanings, DeclareError>
+    requires { scopes.old ≡ first_blocks }
+{
+    let (small, large) = declare_both(alloc, scopes)?;
+    let found = (scopes.find(b"x", 0), scopes.find(b"X", 0));
+    let again = scopes.declare(alloc, b"X", 0, Entry::Bad);
+    if found != (Some(small), Some(large)) || again != Err(DeclareError::Twice(large)) {
+        return Ok((None, None));
     }
-    Ok(())
+    Ok((meaning(scopes, b"x", 0), meaning(scopes, b"X", 0)))
 }
 
-// Declares `x` and `X`.
+// Declares both.
 fn declare_both(alloc: Global, scopes: &mut Scopes) -> Result<(Id, Id), DeclareError>
-    requires { scopes.old ≡ with_new_block first_blocks }
+    requires { scopes.old ≡ first_blocks }
     ensures { OnOk result (entry_count scopes.new < 2 ^ 32) }
 {
+    open(alloc, scopes)?;
     let small = scopes.declare(alloc, b"x", 0, OUTER)?;
     let large = scopes.declare(alloc, b"X", 0, INNER)?;
     Ok((small, large))
 }
 
-// Whether each of both is found, whether the second is refused once more, and what it stands for.
-type Cases = (bool, bool, Option<Entry>);
-
-// Declares both, and the second once more.
-fn declare_again(alloc: Global, scopes: &mut Scopes) -> Result<Cases, DeclareError>
-    requires { scopes.old ≡ with_new_block first_blocks }
-{
-    let (small, large) = declare_both(alloc, scopes)?;
-    let found = (scopes.find(b"x", 0), scopes.find(b"X", 0));
-    let again = scopes.declare(alloc, b"X", 0, Entry::Bad);
-    Ok((
-        found == (Some(small), Some(large)),
-        again == Err(DeclareError::Twice(large)),
-        meaning(scopes, b"X", 0),
-    ))
-}
-
-// The same in a block of its own.
-fn show_cases(alloc: Global) -> Result<Cases, Fail> {
-    let mut scopes = one_block(alloc)?;
-    Ok(declare_again(alloc, &mut scopes)?)
-}
-
-#[test]
-fn names_that_differ_in_case_are_two(rt: HostRuntime) -> Result<(), Fail> {
-    let found = show_cases(rt.alloc())?;
-    assert_eq!(rt; found, (true, true, Some(INNER)));
-    Ok(())
-}
-
-const PREDECLARED: [(&str, Option<Entry>); 6] = [
-    ("INTEGER", Some(Entry::Named(INTEGER))),
-    ("CHAR", Some(Entry::Named(CHAR))),
-    ("BOOLEAN", Some(Entry::Named(BOOLEAN))),
-    ("TRUE", Some(Entry::Constant(BOOLEAN, 1))),
-    ("FALSE", Some(Entry::Constant(BOOLEAN, 0))),
-    ("true", None),
-];
-
-// What a name stands for outside each module.
-fn predeclared(alloc: Global, name: &[u8]) -> Result<Option<Entry>, NoMemory> {
-    let scopes = Scopes::new(alloc)?;
-    Ok(meaning(&scopes, name, 0))
-}
-
-#[test]
-fn predeclared_names_stand_for_types_and_truths(rt: HostRuntime) -> Result<(), Fail> {
-    for (name, want) in &PREDECLARED {
-        let found = predeclared(rt.alloc(), name.as_bytes())?;
-        assert_eq!(rt; found, *want, "at {name}");
-    }
-    Ok(())
-}
-
 // What TRUE stands for before and behind its declaration at the token 4.
-fn redeclare(
-    alloc: Global,
-    scopes: &mut Scopes,
-) -> Result<(Option<Entry>, Option<Entry>), DeclareError>
-    requires { scopes.old ≡ with_new_block first_blocks }
+fn redeclare(alloc: Global, scopes: &mut Scopes) -> Result<Meanings, DeclareError>
+    requires { scopes.old ≡ first_blocks }
 {
+    open(alloc, scopes)?;
     scopes.declare(alloc, b"TRUE", 4, OUTER)?;
     Ok((meaning(scopes, b"TRUE", 3), meaning(scopes, b"TRUE", 4)))
 }
 
-// The same in a block of its own.
-fn redeclared(alloc: Global) -> Result<(Option<Entry>, Option<Entry>), Fail> {
-    let mut scopes = one_block(alloc)?;
-    Ok(redeclare(alloc, &mut scopes)?)
+// What is done with new scopes.
+#[derive(Clone, Copy)]
+enum Act {
+    // Finds this name, at the tokens 0 and 9.
+    Find(&'static str),
+    // Declares TRUE from the token 4 on, and finds it at 3 and 4.
+    Redeclare,
+    // Declares `x` and `X`, and finds both.
+    Both,
+    // Declares `x` from each token on in a block of its own. Finds it at the last, and at 9 in the lower block.
+    Two(u32, u32, u32),
+}
+
+// What is found.
+fn act_in(alloc: Global, scopes: &mut Scopes, act: Act) -> Result<Meanings, DeclareError>
+    requires { scopes.old ≡ first_blocks }
+{
+    match act {
+        Act::Find(name) => {
+            let name = name.as_bytes();
+            Ok((meaning(scopes, name, 0), meaning(scopes, name, 9)))
+        }
+        Act::Redeclare => redeclare(alloc, scopes),
+        Act::Both => declare_cases(alloc, scopes),
+        Act::Two(outer, inner, at) => mean_in_two(alloc, scopes, outer, inner, at),
+    }
+}
+
+// The same in new scopes.
+fn meanings(alloc: Global, act: Act) -> Result<Meanings, DeclareError> {
+    match Scopes::new(alloc) {
+        Ok(mut scopes) => act_in(alloc, &mut scopes, act),
+        Err(_error) => Err(DeclareError::Memory),
+    }
+}
+
+const INTEGERS: Option<Entry> = Some(Entry::Named(INTEGER));
+
+const CHARS: Option<Entry> = Some(Entry::Named(CHAR));
+
+const BOOLEANS: Option<Entry> = Some(Entry::Named(BOOLEAN));
+
+const YES: Option<Entry> = Some(Entry::Constant(BOOLEAN, 1));
+
+const NO: Option<Entry> = Some(Entry::Constant(BOOLEAN, 0));
+
+const MEANINGS: [(Act, Meanings); 17] = [
+    (Act::Find("INTEGER"), (INTEGERS, INTEGERS)),
+    (Act::Find("CHAR"), (CHARS, CHARS)),
+    (Act::Find("BOOLEAN"), (BOOLEANS, BOOLEANS)),
+    (Act::Find("TRUE"), (YES, YES)),
+    (Act::Find("FALSE"), (NO, NO)),
+    (Act::Find("true"), (None, None)),
+    (Act::Redeclare, (YES, Some(OUTER))),
+    (Act::Both, (Some(OUTER), Some(INNER))),
+    (Act::Two(3, 7, 2), (None, Some(OUTER))),
+    (Act::Two(3, 7, 3), (Some(OUTER), Some(OUTER))),
+    (Act::Two(3, 7, 6), (Some(OUTER), Some(OUTER))),
+    (Act::Two(3, 7, 7), (Some(INNER), Some(OUTER))),
+    (Act::Two(7, 3, 2), (None, Some(OUTER))),
+    (Act::Two(7, 3, 3), (Some(INNER), Some(OUTER))),
+    (Act::Two(7, 3, 9), (Some(INNER), Some(OUTER))),
+    (Act::Two(5, 5, 4), (None, Some(OUTER))),
+    (Act::Two(5, 5, 5), (Some(INNER), Some(OUTER))),
+];
+
+// The first row whose meanings are others, and those.
+fn other_meanings(alloc: Global) -> Option<(usize, Result<Meanings, DeclareError>)> {
+    for (number, (act, want)) in MEANINGS.iter().enumerate() {
+        let found = meanings(alloc, *act);
+        if found != Ok(*want) {
+            return Some((number, found));
+        }
+    }
+    None
 }
 
 #[test]
-fn predeclared_names_may_be_declared_again(rt: HostRuntime) -> Result<(), Fail> {
-    assert_eq!(rt;
-        redeclared(rt.alloc())?,
-        (Some(Entry::Constant(BOOLEAN, 1)), Some(OUTER))
-    );
-    Ok(())
+fn the_highest_block_in_which_a_name_is_visible_counts(rt: HostRuntime) {
+    assert_eq!(rt; other_meanings(rt.alloc()), None);
 }

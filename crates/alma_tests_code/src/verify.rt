@@ -1,5 +1,5 @@
 // The same objects, and which rule they break with one byte altered.
-use crate::object::{FIRST, SECOND, with_byte};
+use crate::object::{FIRST, SECOND, second_with_own, with_byte};
 use alma_object::ObjectView;
 use alma_verify::{VerifyFault, verify};
 
@@ -12,8 +12,12 @@ fn verdict(bytes: &[u8]) -> Option<Result<(), VerifyFault>> {
     }
 }
 
-fn broken(rule: u8, at: u32) -> Option<Result<(), VerifyFault>> {
-    Some(Err(VerifyFault { rule, at }))
+// That an object breaks this rule first, in the routine or at the instruction 0, or none.
+fn broken(rule: Option<u8>) -> Option<Result<(), VerifyFault>> {
+    match rule {
+        Some(rule) => Some(Err(VerifyFault { rule, at: 0 })),
+        None => Some(Ok(())),
+    }
 }
 
 // The version of an object that is verified, and how many instructions its view has.
@@ -30,28 +34,32 @@ fn a_verified_object_has_its_own_view(rt: HostRuntime) {
     assert_eq!(rt; found, [Some((1, 1)), Some((2, 1))]);
 }
 
-#[test]
-fn one_byte_altered(rt: HostRuntime) {
-    for (at, byte, want) in [
-        (66, 2, broken(2, 0)),
-        (70, 1, broken(1, 0)),
-        (74, 2, broken(3, 0)),
-        (82, 2, broken(2, 0)),
-        (87, 0x25, broken(10, 0)),
-        (87, 0x27, broken(4, 0)),
-        (87, 0x2e, broken(11, 0)),
-        (87, 0x2f, broken(12, 0)),
-        // A jump to itself.
-        (87, 0x1a, Some(Ok(()))),
-    ] {
-        assert!(rt; at < 104);
-        assert_eq!(rt; verdict(&with_byte(at, byte)), want, "{byte} at {at}");
+// A byte, the value that it is altered to, and the rule that the object breaks then.
+const ROWS: [(usize, u8, Option<u8>); 9] = [
+    (66, 2, Some(2)),
+    (70, 1, Some(1)),
+    (74, 2, Some(3)),
+    (82, 2, Some(2)),
+    (87, 0x25, Some(10)),
+    (87, 0x27, Some(4)),
+    (87, 0x2e, Some(11)),
+    (87, 0x2f, Some(12)),
+    // A jump to itself.
+    (87, 0x1a, None),
+];
+
+// The first row of which the verifier says otherwise.
+fn other_verdict() -> Option<usize> {
+    for (number, (at, byte, rule)) in ROWS.iter().enumerate() {
+        if *at >= 104 || verdict(&with_byte(*at, *byte)) != broken(*rule) {
+            return Some(number);
+        }
     }
+    None
 }
 
 #[test]
-fn own_links_in_a_routine_without_links(rt: HostRuntime) {
-    let mut bytes = SECOND;
-    bytes[91] = 0x31;
-    assert_eq!(rt; verdict(&bytes), broken(4, 0));
+fn one_byte_altered(rt: HostRuntime) {
+    let found = (other_verdict(), verdict(&second_with_own()));
+    assert_eq!(rt; found, (None, broken(Some(4))));
 }

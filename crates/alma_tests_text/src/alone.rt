@@ -7,10 +7,9 @@ use alma_rules::CheckError;
 use alma_scan::{ScanError, Token, scan};
 use alma_tree::{Block, ConstEntry, Decl, TypeEntry};
 use std::alloc::Global;
-use std::test::Fail;
 
 /// The shape and the value of a constant, the shape of a type, or the broken rule and its token.
-#[derive(Clone, Copy, Debug, PartialEq, Eq)]
+#[derive(Clone, Copy, PartialEq, Eq)]
 enum Answer {
     Constant(u32, i64),
     Type(u32),
@@ -138,11 +137,17 @@ fn what_stands_in(alloc: Global, source: &[u8]) -> Result<Answer, ScanError> {
     Ok(parse_first(alloc, source, &tokens))
 }
 
-#[test]
-fn phrases_alone(rt: HostRuntime) -> Result<(), Fail> {
+/// The first row that is answered otherwise.
+fn other_row(alloc: Global) -> Option<usize> {
     for (number, row) in ROWS.iter().enumerate() {
-        let found = what_stands_in(rt.alloc(), row.source)?;
-        assert_eq!(rt; found, row.answer, "row {number}");
+        if what_stands_in(alloc, row.source) != Ok(row.answer) {
+            return Some(number);
+        }
     }
-    Ok(())
+    None
+}
+
+#[test]
+fn phrases_alone(rt: HostRuntime) {
+    assert_eq!(rt; other_row(rt.alloc()), None);
 }

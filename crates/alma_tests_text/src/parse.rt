@@ -4,9 +4,8 @@ ghost use Rattle.std.specs.Prelude.{◌<◌, length};
 use crate::scan::put_copies;
 use alma_base::{NoMemory, SOURCE_LIMIT, SyntaxFault};
 use alma_parse::{ParseError, parse};
-use alma_scan::{Token, scan};
+use alma_scan::{ScanError, Token, scan};
 use std::alloc::Global;
-use std::test::Fail;
 
 /// A program with every form of the grammar.
 const EVERY: &[u8] = b"MODULE Every;
@@ -31,122 +30,123 @@ BEGIN
   KNOWN(x); ORD(letter) = 1; CHR(65); f()
 END Every.";
 
-/// A source, and the fault and its token, or none where it is a program.
+/// A source, and what the parser answers: its fault and the token, or nothing where it is a program.
 struct Row {
     source: &'static [u8],
-    refusal: Option<(SyntaxFault, usize)>,
+    answer: Result<(), ParseError>,
 }
 
 const ROWS: [Row; 12] = [
     Row {
         source: EVERY,
-        refusal: None,
+        answer: Ok(()),
     },
     Row {
         source: b"MODULE A; END A.",
-        refusal: None,
+        answer: Ok(()),
     },
     Row {
         source: b"",
-        refusal: Some((SyntaxFault::Unexpected, 0)),
+        answer: Err(ParseError::Syntax(SyntaxFault::Unexpected, 0)),
     },
     Row {
         source: b"MODULE A; BEGIN WRITE(",
-        refusal: Some((SyntaxFault::Unexpected, 6)),
+        answer: Err(ParseError::Syntax(SyntaxFault::Unexpected, 6)),
     },
     Row {
         source: b"MODULE A; BEGIN x := END A.",
-        refusal: Some((SyntaxFault::Unexpected, 6)),
+        answer: Err(ParseError::Syntax(SyntaxFault::Unexpected, 6)),
     },
     Row {
         source: b"MODULE A; BEGIN x = y = z END A.",
-        refusal: Some((SyntaxFault::Unexpected, 7)),
+        answer: Err(ParseError::Syntax(SyntaxFault::Unexpected, 7)),
     },
     Row {
         source: b"MODULE A; BEGIN NOT NOT TRUE END A.",
-        refusal: Some((SyntaxFault::Unexpected, 5)),
+        answer: Err(ParseError::Syntax(SyntaxFault::Unexpected, 5)),
     },
     Row {
         source: b"MODULE A; END A. B",
-        refusal: Some((SyntaxFault::Unexpected, 6)),
+        answer: Err(ParseError::Syntax(SyntaxFault::Unexpected, 6)),
     },
     Row {
         source: b"MODULE A; END .",
-        refusal: Some((SyntaxFault::Unexpected, 4)),
+        answer: Err(ParseError::Syntax(SyntaxFault::Unexpected, 4)),
     },
     Row {
         source: b"MODULE A; PROCEDURE P; END; END A.",
-        refusal: Some((SyntaxFault::Unexpected, 7)),
+        answer: Err(ParseError::Syntax(SyntaxFault::Unexpected, 7)),
     },
     Row {
         source: b"MODULE A; END A..",
-        refusal: Some((SyntaxFault::Unexpected, 5)),
+        answer: Err(ParseError::Syntax(SyntaxFault::Unexpected, 5)),
     },
     Row {
         source: b"MODULE A; END A",
-        refusal: Some((SyntaxFault::Unexpected, 5)),
+        answer: Err(ParseError::Syntax(SyntaxFault::Unexpected, 5)),
     },
 ];
 
-/// A fault and its token.
-type Refusal = (SyntaxFault, usize);
-
-/// Where the tokens are refused, or none where they are a program.
-fn refusal(alloc: Global, tokens: &[Token<'_>]) -> Result<Option<Refusal>, ParseError> {
+/// What the parser answers, but for the tree.
+fn answer(alloc: Global, tokens: &[Token<'_>]) -> Result<(), ParseError> {
     if tokens.len() > SOURCE_LIMIT {
         return Err(ParseError::Memory);
     }
     match parse(alloc, tokens) {
-        Ok(_module) => Ok(None),
-        Err(ParseError::Syntax(fault, place)) => Ok(Some((fault, place))),
-        Err(memory) => Err(memory),
+        Ok(_module) => Ok(()),
+        Err(error) => Err(error),
     }
 }
 
-/// The same of a source.
-fn refusal_in(alloc: Global, source: &[u8]) -> Result<Option<Refusal>, Fail> {
-    let tokens = scan(alloc, source)?;
-    Ok(refusal(alloc, &tokens)?)
+/// The same of a source, where it has tokens.
+fn answer_to(alloc: Global, source: &[u8]) -> Option<Result<(), ParseError>> {
+    match scan(alloc, source) {
+        Ok(tokens) => Some(answer(alloc, &tokens)),
+        Err(_error) => None,
+    }
 }
 
-#[test]
-fn sources(rt: HostRuntime) -> Result<(), Fail> {
+/// The first row that is answered otherwise.
+fn other_row(alloc: Global) -> Option<usize> {
     for (number, row) in ROWS.iter().enumerate() {
-        let found = refusal_in(rt.alloc(), row.source)?;
-        assert_eq!(rt; found, row.refusal, "row {number}");
+        if answer_to(alloc, row.source) != Some(row.answer) {
+            return Some(number);
+        }
     }
-    Ok(())
-}
-
-/// A module whose body is a number in so many parentheses.
-fn nested(alloc: Global, depth: usize) -> Result<Vec<u8>, NoMemory> {
-    let mut source = Vec::new(alloc);
-    for (piece, count) in [
-        (b"MODULE A; BEGIN ".as_slice(), 1),
-        (b"(".as_slice(), depth),
-        (b"1".as_slice(), 1),
-        (b")".as_slice(), depth),
-        (b" END A.".as_slice(), 1),
-    ] {
-        put_copies(&mut source, piece, count)?;
-    }
-    Ok(source)
-}
-
-/// Where such a module is refused.
-fn nested_refusal(alloc: Global, depth: usize) -> Result<Option<Refusal>, Fail> {
-    let source = nested(alloc, depth)?;
-    refusal_in(alloc, &source)
+    None
 }
 
 #[test]
-fn depths(rt: HostRuntime) -> Result<(), Fail> {
+fn sources(rt: HostRuntime) {
+    assert_eq!(rt; other_row(rt.alloc()), None);
+}
+
+/// Puts a module whose body is a number in so many parentheses into bytes.
+fn put_nested(source: &mut Vec<u8>, depth: usize) -> Result<(), NoMemory> {
+    put_copies(source, b"MODULE A; BEGIN ", 1)?;
+    put_copies(source, b"(", depth)?;
+    put_copies(source, b"1", 1)?;
+    put_copies(source, b")", depth)?;
+    put_copies(source, b" END A.", 1)
+}
+
+/// What the parser answers to such a module.
+fn answer_to_nested(alloc: Global, depth: usize) -> Option<Result<(), ParseError>> {
+    let mut source = Vec::new(alloc);
+    match put_nested(&mut source, depth) {
+        Ok(()) => answer_to(alloc, &source),
+        Err(_error) => None,
+    }
+}
+
+#[test]
+fn depths(rt: HostRuntime) {
     let found = [
-        nested_refusal(rt.alloc(), 99)?,
-        nested_refusal(rt.alloc(), 100)?,
+        answer_to_nested(rt.alloc(), 99),
+        answer_to_nested(rt.alloc(), 100),
     ];
-    assert_eq!(rt; found, [None, Some((SyntaxFault::TooDeep, 103))]);
-    Ok(())
+    let too_deep = Err(ParseError::Syntax(SyntaxFault::TooDeep, 103));
+    assert_eq!(rt; found, [Some(Ok(())), Some(too_deep)]);
 }
 
 /// Tokens, and others behind them.
@@ -160,48 +160,48 @@ fn joined<'s>(
     Ok(tokens)
 }
 
+/// Whether so many tokens are a program, or are refused no earlier than here.
+fn is_no_earlier(answer: Result<(), ParseError>, place: usize, count: usize) -> bool {
+    match answer {
+        Ok(()) => true,
+        Err(ParseError::Syntax(_, refused)) => place <= refused && refused <= count,
+        Err(_memory) => false,
+    }
+}
+
 /// Whether tokens with others behind them are a program, or are refused no earlier than here.
-fn is_refused_behind(
-    alloc: Global,
-    front: &[Token<'_>],
-    back: &[Token<'_>],
-    place: usize,
-) -> Result<bool, Fail> {
-    let tokens = joined(alloc, front, back)?;
-    match refusal(alloc, &tokens)? {
-        None => Ok(true),
-        Some((_, refused)) => Ok(place <= refused && refused <= tokens.len()),
+fn is_refused_behind(alloc: Global, front: &[Token<'_>], back: &[Token<'_>], place: usize) -> bool {
+    match joined(alloc, front, back) {
+        Ok(tokens) => is_no_earlier(answer(alloc, &tokens), place, tokens.len()),
+        Err(_error) => false,
     }
 }
 
 /// The same of tokens without the one at this place, and with two of it.
-fn are_refused_behind(alloc: Global, tokens: &[Token<'_>], place: usize) -> Result<bool, Fail>
+fn are_refused_behind(alloc: Global, tokens: &[Token<'_>], place: usize) -> bool
     requires { place < length tokens.now }
 {
-    let (front, back) = (&tokens[..place], &tokens[place + 1..]);
-    let without = is_refused_behind(alloc, front, back, place)?;
-    let (front, back) = (&tokens[..place + 1], &tokens[place..]);
-    Ok(without && is_refused_behind(alloc, front, back, place)?)
+    is_refused_behind(alloc, &tokens[..place], &tokens[place + 1..], place)
+        && is_refused_behind(alloc, &tokens[..place + 1], &tokens[place..], place)
 }
 
 /// The first place where one token less, or one more, is refused earlier.
-fn early_refusal(alloc: Global, tokens: &[Token<'_>]) -> Result<Option<usize>, Fail> {
+fn early_refusal(alloc: Global, tokens: &[Token<'_>]) -> Option<usize> {
     for place in 0..tokens.len() {
-        if !are_refused_behind(alloc, tokens, place)? {
-            return Ok(Some(place));
+        if !are_refused_behind(alloc, tokens, place) {
+            return Some(place);
         }
     }
-    Ok(None)
+    None
 }
 
 /// The same of the tokens of a source.
-fn early_refusal_in(alloc: Global, source: &[u8]) -> Result<Option<usize>, Fail> {
+fn early_refusal_in(alloc: Global, source: &[u8]) -> Result<Option<usize>, ScanError> {
     let tokens = scan(alloc, source)?;
-    early_refusal(alloc, &tokens)
+    Ok(early_refusal(alloc, &tokens))
 }
 
 #[test]
-fn changed_tokens(rt: HostRuntime) -> Result<(), Fail> {
-    assert_eq!(rt; early_refusal_in(rt.alloc(), EVERY)?, None);
-    Ok(())
+fn changed_tokens(rt: HostRuntime) {
+    assert_eq!(rt; early_refusal_in(rt.alloc(), EVERY), Ok(None));
 }

@@ -1,9 +1,8 @@
 // What the scanner makes of sources: tokens with their offsets, faults, places.
 use alma_base::{LexFault, NoMemory};
-use alma_scan::{LexStop, ScanError, Scanner, Token, place, scan};
+use alma_scan::{ScanError, Scanner, Token, place, scan};
 use alma_tree::Kind;
 use std::alloc::Global;
-use std::test::Fail;
 
 /// A source, the kinds and the offsets of its tokens, and the fault behind them.
 struct Row {
@@ -12,7 +11,7 @@ struct Row {
     stop: Option<(LexFault, usize)>,
 }
 
-const ROWS: [Row; 26] = [
+const ROWS: [Row; 28] = [
     Row {
         source: b" \t\r\n",
         tokens: &[],
@@ -160,6 +159,16 @@ const ROWS: [Row; 26] = [
         tokens: &[(Kind::Name, 0)],
         stop: Some((LexFault::BadByte, 3)),
     },
+    Row {
+        source: b"; '",
+        tokens: &[(Kind::Semicolon, 0)],
+        stop: Some((LexFault::OpenString, 2)),
+    },
+    Row {
+        source: b"; ",
+        tokens: &[(Kind::Semicolon, 0)],
+        stop: None,
+    },
 ];
 
 const SYMBOLS: &[u8] = b"; , . .. : := ( ) [ ] = # <> < <= > >= + - * |";
@@ -254,17 +263,25 @@ fn ends(scanner: &mut Scanner<'_>, stop: Option<(LexFault, usize)>) -> bool {
     }
 }
 
-/// Whether the tokens and the fault of a source are those expected.
+/// Whether the tokens of a source are those expected, and it ends, or stops at its fault, twice.
 fn is_expected(row: &Row) -> bool {
     let mut scanner = Scanner::new(row.source);
-    gives(&mut scanner, row.tokens) && ends(&mut scanner, row.stop)
+    gives(&mut scanner, row.tokens) && ends(&mut scanner, row.stop) && ends(&mut scanner, row.stop)
+}
+
+/// The first row that is not as expected.
+fn other_row() -> Option<usize> {
+    for (number, row) in ROWS.iter().enumerate() {
+        if !is_expected(row) {
+            return Some(number);
+        }
+    }
+    None
 }
 
 #[test]
 fn sources(rt: HostRuntime) {
-    for (number, row) in ROWS.iter().enumerate() {
-        assert!(rt; is_expected(row), "row {number}");
-    }
+    assert_eq!(rt; other_row(), None);
 }
 
 /// Whether tokens are of these kinds.
@@ -284,31 +301,12 @@ fn has_kinds(alloc: Global, source: &[u8], want: &[Kind]) -> Result<bool, ScanEr
 }
 
 #[test]
-fn spellings(rt: HostRuntime) -> Result<(), Fail> {
+fn spellings(rt: HostRuntime) {
     let found = [
-        has_kinds(rt.alloc(), SYMBOLS, &SYMBOL_KINDS)?,
-        has_kinds(rt.alloc(), WORDS, &WORD_KINDS)?,
+        has_kinds(rt.alloc(), SYMBOLS, &SYMBOL_KINDS),
+        has_kinds(rt.alloc(), WORDS, &WORD_KINDS),
     ];
-    assert_eq!(rt; found, [true; 2]);
-    Ok(())
-}
-
-/// What a scanner answers twice behind the first token of a source.
-fn behind_one(source: &[u8]) -> [Result<Option<Token<'_>>, LexStop>; 2] {
-    let mut scanner = Scanner::new(source);
-    let _semicolon = scanner.next();
-    let first = scanner.next();
-    [first, scanner.next()]
-}
-
-#[test]
-fn stops_for_good(rt: HostRuntime) {
-    let stop = LexStop {
-        fault: LexFault::OpenString,
-        at: 2,
-    };
-    let found = [behind_one(b"; '"), behind_one(b"; ")];
-    assert_eq!(rt; found, [[Err(stop), Err(stop)], [Ok(None), Ok(None)]]);
+    assert_eq!(rt; found, [Ok(true); 2]);
 }
 
 /// Puts so many copies of a pattern behind bytes.
@@ -323,12 +321,51 @@ pub(crate) fn put_copies(
     Ok(())
 }
 
-/// So many copies of a pattern, and then an end.
-fn repeated(alloc: Global, pattern: &[u8], count: usize, end: &[u8]) -> Result<Vec<u8>, NoMemory> {
-    let mut bytes = Vec::new(alloc);
-    put_copies(&mut bytes, pattern, count)?;
-    put_copies(&mut bytes, end, 1)?;
-    Ok(bytes)
+/// A source of so many copies of a front and so many of a back, with an end, and the number of its tokens or the fault.
+struct Long {
+    front: &'static [u8],
+    back: &'static [u8],
+    count: usize,
+    end: &'static [u8],
+    outcome: Result<usize, ScanError>,
+}
+
+const LONG: [Long; 4] = [
+    Long {
+        front: b"9",
+        back: b"",
+        count: 1_000_000,
+        end: b"",
+        outcome: Err(ScanError::Lex(LexFault::NumberTooLarge, 0)),
+    },
+    Long {
+        front: b"0",
+        back: b"",
+        count: 1_000_000,
+        end: b"7;",
+        outcome: Ok(2),
+    },
+    Long {
+        front: b"(*",
+        back: b"",
+        count: 524_288,
+        end: b"",
+        outcome: Err(ScanError::Lex(LexFault::OpenComment, 0)),
+    },
+    Long {
+        front: b"(*",
+        back: b"*)",
+        count: 262_143,
+        end: b" END",
+        outcome: Ok(1),
+    },
+];
+
+/// Puts such a source into bytes.
+fn put_long(bytes: &mut Vec<u8>, row: &Long) -> Result<(), NoMemory> {
+    put_copies(bytes, row.front, row.count)?;
+    put_copies(bytes, row.back, row.count)?;
+    put_copies(bytes, row.end, 1)
 }
 
 /// The number of tokens, or the fault.
@@ -336,42 +373,28 @@ fn outcome(alloc: Global, source: &[u8]) -> Result<usize, ScanError> {
     Ok(scan(alloc, source)?.len())
 }
 
-/// The number of tokens, or the fault, of so many copies of a pattern and an end.
-fn repeated_outcome(
-    alloc: Global,
-    pattern: &[u8],
-    count: usize,
-    end: &[u8],
-) -> Result<Result<usize, ScanError>, NoMemory> {
-    let source = repeated(alloc, pattern, count, end)?;
-    Ok(outcome(alloc, &source))
-}
-
-#[test]
-fn long_sources(rt: HostRuntime) -> Result<(), Fail> {
-    let too_large = Err(ScanError::Lex(LexFault::NumberTooLarge, 0));
-    let open = Err(ScanError::Lex(LexFault::OpenComment, 0));
-    for (pattern, count, end, want) in [
-        (b"9".as_slice(), 1_000_000, b"".as_slice(), too_large),
-        (b"0".as_slice(), 1_000_000, b"7;".as_slice(), Ok(2)),
-        (b"(*".as_slice(), 524_288, b"".as_slice(), open),
-    ] {
-        let found = repeated_outcome(rt.alloc(), pattern, count, end)?;
-        assert_eq!(rt; found, want, "{count} times {pattern:?}");
+/// The same of such a source.
+fn long_outcome(alloc: Global, row: &Long) -> Result<usize, ScanError> {
+    let mut bytes = Vec::new(alloc);
+    match put_long(&mut bytes, row) {
+        Ok(()) => outcome(alloc, &bytes),
+        Err(_error) => Err(ScanError::Memory),
     }
-    Ok(())
 }
 
-/// The number of tokens, or the fault, of a comment in so many others, and a word behind them.
-fn nested_outcome(alloc: Global, depth: usize) -> Result<Result<usize, ScanError>, NoMemory> {
-    let closings = repeated(alloc, b"*)", depth, b" END")?;
-    repeated_outcome(alloc, b"(*", depth, &closings)
+/// The first long source that is not as expected.
+fn other_long(alloc: Global) -> Option<usize> {
+    for (number, row) in LONG.iter().enumerate() {
+        if long_outcome(alloc, row) != row.outcome {
+            return Some(number);
+        }
+    }
+    None
 }
 
 #[test]
-fn deep_comment(rt: HostRuntime) -> Result<(), Fail> {
-    assert_eq!(rt; nested_outcome(rt.alloc(), 262_143)?, Ok(1));
-    Ok(())
+fn long_sources(rt: HostRuntime) {
+    assert_eq!(rt; other_long(rt.alloc()), None);
 }
 
 /// The text of the second of three tokens. The list of them ends here.
@@ -384,18 +407,26 @@ fn second_text(alloc: Global, source: &[u8]) -> Result<Option<&[u8]>, ScanError>
 }
 
 #[test]
-fn text_outlives_the_list(rt: HostRuntime) -> Result<(), Fail> {
-    let text = second_text(rt.alloc(), b"MODULE Kept;")?;
-    assert_eq!(rt; text, Some(b"Kept".as_slice()));
-    Ok(())
+fn text_outlives_the_list(rt: HostRuntime) {
+    let text = second_text(rt.alloc(), b"MODULE Kept;");
+    assert_eq!(rt; text, Ok(Some(b"Kept".as_slice())));
+}
+
+/// The lines and the columns of the places in a source of five bytes.
+const PLACES: [(u32, u32); 6] = [(1, 1), (1, 2), (2, 1), (2, 2), (3, 1), (3, 2)];
+
+/// The first of these places that is another.
+fn other_place() -> Option<usize> {
+    for (offset, want) in PLACES.iter().enumerate() {
+        let found = place(b"a\n\r\nc", offset);
+        if (found.line, found.column) != *want {
+            return Some(offset);
+        }
+    }
+    None
 }
 
 #[test]
 fn places(rt: HostRuntime) {
-    let source = b"a\n\r\nc";
-    let expected = [(1, 1), (1, 2), (2, 1), (2, 2), (3, 1), (3, 2)];
-    for (offset, (line, column)) in expected.iter().enumerate() {
-        let found = place(source, offset);
-        assert_eq!(rt; (found.line, found.column), (*line, *column));
-    }
+    assert_eq!(rt; other_place(), None);
 }

@@ -5,7 +5,6 @@ use alma_tree::{
     Block, Expr, Factor, Kind, Leaf, Module, Name, Primary, Simple, Stmt, Stmts, Term, depth,
 };
 use std::alloc::Global;
-use std::test::Fail;
 
 const NAME: Name = Name { node: 0, token: 0 };
 
@@ -55,42 +54,26 @@ fn module_of(alloc: Global, body: Option<Stmts>) -> Module {
     }
 }
 
-/// The depth of a short spelling.
-fn depth_of(kinds: &[Kind]) -> Option<u32> {
-    if kinds.len() > 99 {
+/// The depth of a short spelling, where it is of these kinds.
+fn depth_of(spelling: &[Kind], kinds: &[Kind]) -> Option<u32> {
+    if spelling != kinds || spelling.len() > 99 {
         return None;
     }
-    Some(depth(kinds))
+    Some(depth(spelling))
 }
 
-/// Whether a module is spelled so, and the depth of its spelling.
-type Spelled = (bool, Option<u32>);
-
-/// The same of a module that is at hand.
-fn spell_to(alloc: Global, module: &Module, kinds: &[Kind]) -> Result<Spelled, NoMemory> {
-    let spelling = spell(alloc, module)?;
-    Ok((spelling.as_slice() == kinds, depth_of(&spelling)))
+/// The depth of the spelling of a module, where it is of these kinds.
+fn spelled_depth(alloc: Global, module: &Module, kinds: &[Kind]) -> Option<u32> {
+    match spell(alloc, module) {
+        Ok(spelling) => depth_of(&spelling, kinds),
+        Err(_error) => None,
+    }
 }
 
 /// The same of the empty module.
-fn spell_empty(alloc: Global, kinds: &[Kind]) -> Result<Spelled, NoMemory> {
+fn empty_depth(alloc: Global) -> Option<u32> {
     let module = module_of(alloc, None);
-    spell_to(alloc, &module, kinds)
-}
-
-#[test]
-fn the_empty_module(rt: HostRuntime) -> Result<(), Fail> {
-    let kinds = [
-        Kind::Module,
-        Kind::Name,
-        Kind::Semicolon,
-        Kind::End,
-        Kind::Name,
-        Kind::Dot,
-    ];
-    let (is_spelled, _depth) = spell_empty(rt.alloc(), &kinds)?;
-    assert!(rt; is_spelled);
-    Ok(())
+    spelled_depth(alloc, &module, &EMPTY)
 }
 
 /// A module that returns a number.
@@ -104,44 +87,57 @@ fn returning(alloc: Global) -> Result<Module, NoMemory> {
     Ok(module_of(alloc, Some(body)))
 }
 
+const EMPTY: [Kind; 6] = [
+    Kind::Module,
+    Kind::Name,
+    Kind::Semicolon,
+    Kind::End,
+    Kind::Name,
+    Kind::Dot,
+];
+
+const RETURNING: [Kind; 9] = [
+    Kind::Module,
+    Kind::Name,
+    Kind::Semicolon,
+    Kind::Begin,
+    Kind::Return,
+    Kind::Number,
+    Kind::End,
+    Kind::Name,
+    Kind::Dot,
+];
+
 /// The same of that module.
-fn spell_returning(alloc: Global, kinds: &[Kind]) -> Result<Spelled, NoMemory> {
-    let module = returning(alloc)?;
-    spell_to(alloc, &module, kinds)
+fn returning_depth(alloc: Global) -> Option<u32> {
+    match returning(alloc) {
+        Ok(module) => spelled_depth(alloc, &module, &RETURNING),
+        Err(_error) => None,
+    }
 }
 
 #[test]
-fn a_statement(rt: HostRuntime) -> Result<(), Fail> {
-    let kinds = [
-        Kind::Module,
-        Kind::Name,
-        Kind::Semicolon,
-        Kind::Begin,
-        Kind::Return,
-        Kind::Number,
-        Kind::End,
-        Kind::Name,
-        Kind::Dot,
-    ];
-    let found = spell_returning(rt.alloc(), &kinds)?;
-    assert_eq!(rt; found, (true, Some(1)));
-    Ok(())
+fn modules_are_spelled(rt: HostRuntime) {
+    let found = [empty_depth(rt.alloc()), returning_depth(rt.alloc())];
+    assert_eq!(rt; found, [Some(1); 2]);
+}
+
+const CROSSED: [Kind; 4] = [
+    Kind::Repeat,
+    Kind::OpenBracket,
+    Kind::CloseBracket,
+    Kind::Until,
+];
+
+/// The depths of three lists.
+fn depths() -> [u32; 3] {
+    let opened = [Kind::CloseParen, Kind::OpenParen, Kind::OpenParen];
+    [depth(&[]), depth(&opened), depth(&CROSSED)]
 }
 
 #[test]
-fn depths(rt: HostRuntime) {
-    let crossed = [
-        Kind::Repeat,
-        Kind::OpenBracket,
-        Kind::CloseBracket,
-        Kind::Until,
-    ];
-    let found = [
-        depth(&[]),
-        depth(&[Kind::CloseParen, Kind::OpenParen, Kind::OpenParen]),
-        depth(&crossed),
-    ];
-    assert_eq!(rt; found, [0, 1, 2]);
+fn lists_have_depths(rt: HostRuntime) {
+    assert_eq!(rt; depths(), [0, 1, 2]);
 }
 
 #[test]
