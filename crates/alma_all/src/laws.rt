@@ -18,7 +18,8 @@ pub fn every_alternative_is_listed()
 /// Words name a file and, where they say so, a number of steps, and the plan goes by these; or one is the first that cannot stand where it
 /// is, or they end too early, and the plan tells that.
 pub fn words_are_a_request_or_have_a_bad_word()
-    ensures request { (words : List (List ℕ)) (file : List ℕ) (steps : ℕ) → AsksToList words file steps
+    ensures request { (words : List (List ℕ)) (file : List ℕ) (steps : ℕ)
+        → AsksToList words file steps
         → all_plan words ≡ file_plan file steps }
     ensures bad_word { (words : List (List ℕ)) (k : ℕ) → IsBadWord IsRequest words k
         → all_plan words ≡ bad k }

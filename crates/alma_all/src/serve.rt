@@ -51,7 +51,8 @@ fn list_file<F: Files, I: Source, O: Sink>(
     out: &mut O,
 ) -> AllEnd
     requires few { steps ≤ 2 ^ 62 }
-    ensures { Follows all_sense program_name (file_plan file.now steps) (F.side files.old) (F.side files.new)
+    ensures { Follows all_sense program_name (file_plan file.now steps)
+        (F.side files.old) (F.side files.new)
         (I.side input.old) (I.side input.new) (O.side out.old) (O.side out.new)
         (all_end file.now result) }
 {

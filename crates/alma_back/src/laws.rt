@@ -26,7 +26,8 @@ pub fn names_are_those_that_are_watched()
 /// Words name an object and a script, and the plan goes by these; or one is the first that cannot stand where it is, or they end too
 /// early, and the plan tells that.
 pub fn words_are_a_request_or_have_a_bad_word()
-    ensures request { (words : List (List ℕ)) (object script : List ℕ) → AsksToWalk words object script
+    ensures request { (words : List (List ℕ)) (object script : List ℕ)
+        → AsksToWalk words object script
         → back_plan words ≡ fetch_plan object script }
     ensures bad_word { (words : List (List ℕ)) (k : ℕ) → IsBadWord IsRequest words k
         → back_plan words ≡ bad k }

@@ -30,8 +30,10 @@ pub fn enter_name(
     fault: Option<BrokenRule>,
     entry: Entry,
 ) -> Result<(), NoMemory>
-    ensures { (f : rules.Frame) (faults : List RuleBroken) → frame_with_scene f.scene frame.old ≡ told_frame f
-        → fault_of fault ≡ first faults → OnOk result (frame_with_scene reader.new frame.new ≡ told_frame
+    ensures { (f : rules.Frame) (faults : List RuleBroken) → frame_with_scene f.scene frame.old
+        ≡ told_frame f
+        → fault_of fault ≡ first faults
+        → OnOk result (frame_with_scene reader.new frame.new ≡ told_frame
         (rules.enter f (view.view_name name.now) from faults reader.old entry)) }
 {
     let twice = redeclared(reader, name);

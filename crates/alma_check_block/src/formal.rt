@@ -136,7 +136,8 @@ fn place_param(
     shape: u32,
 ) -> Result<(), NoMemory>
     ensures { (f : rules.Frame) → frame_with_scene reader.old frame.old ≡ told_frame f
-        → OnOk result (frame_with_scene reader.new frame.new ≡ told_frame (param_shaped f from mode shape
+        → OnOk result (frame_with_scene reader.new frame.new
+        ≡ told_frame (param_shaped f from mode shape
         (view.view_name name.now))) }
 {
     if reader.is_first(name) {
@@ -157,7 +158,8 @@ fn declare_shaped(
     shape: u32,
 ) -> Result<(), NoMemory>
     ensures { (f : rules.Frame) → frame_with_scene reader.old frame.old ≡ told_frame f
-        → OnOk result (frame_with_scene reader.new frame.new ≡ told_frame (rules.param_in f from mode
+        → OnOk result (frame_with_scene reader.new frame.new
+        ≡ told_frame (rules.param_in f from mode
         (Some shape) (view.view_name name.now))) }
 {
     place_param(alloc, reader, frame, name, from, mode, shape)?;
@@ -177,7 +179,8 @@ fn declare_bad(
     mode: Option<Mode>,
 ) -> Result<(), NoMemory>
     ensures { (f : rules.Frame) → frame_with_scene reader.old frame.old ≡ told_frame f
-        → OnOk result (frame_with_scene reader.new frame.new ≡ told_frame (rules.param_in f from mode None
+        → OnOk result (frame_with_scene reader.new frame.new
+        ≡ told_frame (rules.param_in f from mode None
         (view.view_name name.now))) }
 {
     enter_name(alloc, reader, frame, name, from, None, Entry::Bad)?;
@@ -195,7 +198,8 @@ fn declare_param(
     shape: Option<u32>,
 ) -> Result<(), NoMemory>
     ensures { (f : rules.Frame) → frame_with_scene reader.old frame.old ≡ told_frame f
-        → OnOk result (frame_with_scene reader.new frame.new ≡ told_frame (rules.param_in f from mode shape
+        → OnOk result (frame_with_scene reader.new frame.new
+        ≡ told_frame (rules.param_in f from mode shape
         (view.view_name name.now))) }
 {
     match shape {
@@ -214,7 +218,8 @@ fn declare_params(
     shape: Option<u32>,
 ) -> Result<(), NoMemory>
     ensures { (f : rules.Frame) → frame_with_scene reader.old frame.old ≡ told_frame f
-        → OnOk result (frame_with_scene reader.new frame.new ≡ told_frame (rules.params_in f from mode shape
+        → OnOk result (frame_with_scene reader.new frame.new
+        ≡ told_frame (rules.params_in f from mode shape
         (view.names_of names.now))) }
 {
     for name in names {

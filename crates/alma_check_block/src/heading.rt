@@ -159,7 +159,8 @@ fn at_depth(
     heading: Option<Heading>,
 ) -> Option<Heading>
     ensures frame { (s : Scene) (h : rules.FramedHeading) (faults : List Rule) (node : ℕ)
-        → frame_with_scene s frame.old ≡ told_frame h.frame → fault_of deep ≡ first (broken_at node faults)
+        → frame_with_scene s frame.old ≡ told_frame h.frame
+        → fault_of deep ≡ first (broken_at node faults)
         → frame_with_scene s frame.new ≡ told_frame (rules.with_depth faults node h).frame }
     ensures heading { (h : rules.FramedHeading) (faults : List Rule) (node : ℕ)
         → option_map heading_view heading ≡ h.heading

@@ -105,7 +105,8 @@ fn declare_variable(
     shape: Option<u32>,
 ) -> Result<(), NoMemory>
     ensures { (f : rules.Frame) → frame_with_scene reader.old frame.old ≡ told_frame f
-        → OnOk result (frame_with_scene reader.new frame.new ≡ told_frame (rules.variable_in f from shape
+        → OnOk result (frame_with_scene reader.new frame.new
+        ≡ told_frame (rules.variable_in f from shape
         (view.view_name name.now))) }
 {
     match shape {
@@ -123,7 +124,8 @@ fn declare_variables(
     shape: Option<u32>,
 ) -> Result<(), NoMemory>
     ensures { (f : rules.Frame) → frame_with_scene reader.old frame.old ≡ told_frame f
-        → OnOk result (frame_with_scene reader.new frame.new ≡ told_frame (rules.variables_in f from shape
+        → OnOk result (frame_with_scene reader.new frame.new
+        ≡ told_frame (rules.variables_in f from shape
         (view.names_of names.now))) }
 {
     for name in names {

@@ -11,8 +11,7 @@ pub use chain::{
     mul_operator, no_constant_sum,
 };
 pub use expression::{
-    argument, as_callee, as_located, as_test, as_typed, as_value, boolean, call, character, chr,
-    desig, integer, known, negate, no_place, ord, select_field, select_index, sequence,
-    without_place,
+    argument, as_callee, as_located, as_test, as_typed, as_value, call, character, chr, desig,
+    integer, known, negate, ord, select_field, select_index, sequence, without_place,
 };
 pub use relation::relate;

@@ -11,6 +11,6 @@ pub use case::{case_arm, case_stmt};
 pub use list::with_part;
 pub use statement::{
     assigned, bare_return, commit_stmt, condition, either_stmt, forall_stmt, guarded, if_stmt,
-    joined, line, nothing, read, repeat_stmt, returned, single, test_stmt, text, while_stmt, write,
+    joined, line, nothing, read, repeat_stmt, returned, test_stmt, text, while_stmt, write,
 };
 pub use turns::{for_stmt, loop_of, some_stmt};

@@ -127,9 +127,11 @@ pub fn join_known(
     node: u32,
     desig: Result<Option<Denotation>, Stop>,
 ) -> Result<Option<TypedExpr>, Stop>
-    ensures { (j : Judgement parts.Denotation) (m : ℕ) → Answers j (denoted_of (headings_in env.now))
-        m desig → Answers (with nodes.known_typing (at_node node (rules.known_rules (scene_of env.now
-        place)) (with_some parts.located_in j))) typing_of m result }
+    ensures { (j : Judgement parts.Denotation) (m : ℕ)
+        → Answers j (denoted_of (headings_in env.now)) m desig
+        → Answers (with nodes.known_typing
+        (at_node node (rules.known_rules (scene_of env.now place))
+        (with_some parts.located_in j))) typing_of m result }
 {
     let found = desig?;
     let located = as_located(env, found);
@@ -143,8 +145,9 @@ pub fn join_value(
     env: &Env,
     desig: Result<Option<Denotation>, Stop>,
 ) -> Result<Option<TypedExpr>, Stop>
-    ensures { (j : Judgement parts.Denotation) (m : ℕ) → Answers j (denoted_of (headings_in env.now))
-        m desig → Answers (with_some parts.typing_in j) typing_of m result }
+    ensures { (j : Judgement parts.Denotation) (m : ℕ)
+        → Answers j (denoted_of (headings_in env.now)) m desig
+        → Answers (with_some parts.typing_in j) typing_of m result }
 {
     let found = desig?;
     Ok(as_typed(alloc, env, found))
@@ -190,9 +193,9 @@ pub fn join_array(
     node: u32,
     part: Result<Option<Denotation>, Stop>,
 ) -> Result<Option<Denotation>, Stop>
-    ensures { (j : Judgement parts.Denotation) (m : ℕ) → Answers j (denoted_of (headings_in env.now)) m
-        part → Answers (at_node node rules.array_rules j) (denoted_of (headings_in env.now)) m
-        result }
+    ensures { (j : Judgement parts.Denotation) (m : ℕ)
+        → Answers j (denoted_of (headings_in env.now)) m part
+        → Answers (at_node node rules.array_rules j) (denoted_of (headings_in env.now)) m result }
 {
     let part = part?;
     pass_array(env, node, &part)?;
@@ -209,10 +212,11 @@ pub fn join_desig(
     found: Found,
     part: Result<Option<Denotation>, Stop>,
 ) -> Result<Option<Denotation>, Stop>
-    ensures { (j : Judgement parts.Denotation) (m : ℕ) → Answers j (denoted_of (headings_in env.now)) m
-        part → Answers (at_node node (rules.desig_rules (scene_of env.now place) (use_view wanted)
-        selected (found_view (headings_in env.now) found)) j) (denoted_of (headings_in env.now)) m
-        result }
+    ensures { (j : Judgement parts.Denotation) (m : ℕ)
+        → Answers j (denoted_of (headings_in env.now)) m part
+        → Answers (at_node node
+        (rules.desig_rules (scene_of env.now place) (use_view wanted) selected
+        (found_view (headings_in env.now) found)) j) (denoted_of (headings_in env.now)) m result }
 {
     let part = part?;
     pass_desig(env, place, node, wanted, selected, found)?;
@@ -297,8 +301,9 @@ pub fn join_callee(
     env: &Env,
     desig: Result<Option<Denotation>, Stop>,
 ) -> Result<Option<Callee>, Stop>
-    ensures { (j : Judgement parts.Denotation) (m : ℕ) → Answers j (denoted_of (headings_in env.now))
-        m desig → Answers (with_some parts.callee_in j) (callee_of (headings_in env.now)) m result }
+    ensures { (j : Judgement parts.Denotation) (m : ℕ)
+        → Answers j (denoted_of (headings_in env.now)) m desig
+        → Answers (with_some parts.callee_in j) (callee_of (headings_in env.now)) m result }
 {
     let found = desig?;
     Ok(as_callee(env, found))

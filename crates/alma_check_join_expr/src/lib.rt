@@ -5,7 +5,7 @@ mod chain;
 mod expression;
 mod look;
 
-pub use chain::{is_one_factor, is_one_term, join_product, join_sum};
+pub use chain::{join_product, join_sum};
 pub use expression::{
     check_found, check_literal, check_number, join_argument, join_array, join_call, join_callee,
     join_chr, join_desig, join_factor, join_field, join_index, join_known, join_not, join_ord,

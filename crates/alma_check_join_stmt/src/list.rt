@@ -122,7 +122,8 @@ pub fn add_label(
     ensures earlier { (j : Judgement parts.Span) (m : ℕ) → Answers j span_view m span
         → OnOk result (spans_view earlier.new ≡ spans_view earlier.old ++ option_to_list
         j.value) }
-    ensures grown { (old : List parts.Span) → GrowsBy old (spans_in kept) (spans_view earlier.old) → IfOk result (λ k. GrowsBy old (spans_in k) (spans_view earlier.new)) }
+    ensures grown { (old : List parts.Span) → GrowsBy old (spans_in kept) (spans_view earlier.old)
+        → IfOk result (λ k. GrowsBy old (spans_in k) (spans_view earlier.new)) }
 {
     let span = span?;
     note(earlier, span)?;

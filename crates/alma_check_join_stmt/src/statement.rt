@@ -31,7 +31,8 @@ pub fn join_place(
     env: &Env,
     desig: Result<Option<Denotation>, Stop>,
 ) -> Result<Option<Location>, Stop>
-    ensures { (j : Judgement parts.Denotation) (m : ℕ) → Answers j (denoted_of (headings_in env.now)) m
+    ensures { (j : Judgement parts.Denotation) (m : ℕ)
+        → Answers j (denoted_of (headings_in env.now)) m
         desig → Answers (with_some parts.located_in j) located_of m result }
 {
     let found = desig?;

@@ -9,10 +9,9 @@ mod statement;
 mod type_node;
 mod widths;
 
-pub use declaration::{first_token_of, mark_module};
+pub use declaration::first_token_of;
 pub use expression::mark_expr;
-pub use mark::{Mark, Marks, first_token, marks_from};
-pub use statement::mark_stmts;
+pub use mark::{Mark, Marks};
 pub use widths::{
     first_token_in_expr, first_token_in_type, statement_tokens, width_of_expr, width_of_type,
 };

@@ -146,7 +146,8 @@ pub(crate) fn closed(
 ) -> Result<(), NoMemory>
     ensures done { OnOk result (IsOk walked) }
     ensures noted { OnOk result
-        (HasNode (places.step_on (marks_of marks.old) places.token) (marks_of marks.new) node token) }
+        (HasNode (places.step_on (marks_of marks.old) places.token) (marks_of marks.new) node
+        token) }
 {
     walked?;
     marks.token()?;

@@ -31,7 +31,8 @@ fn check_head<S>(
 where
     S: Fn(Global, &Env, Place, &mut u32, &Stmts) -> StmtsJudged,
     requires judges { JudgesStmts (S.IsAlwaysCallable inside.now) (S.post inside.now) }
-    ensures judged { JudgesHead env.now place (view.view_name variable.now) (view.view_expr from.now)
+    ensures judged { JudgesHead env.now place (view.view_name variable.now)
+        (view.view_expr from.now)
         (view.view_expr to.now) slot.old slot.new result }
     ensures limit { IfOk result (λ h. h.counter + 1 < 2 ^ 32) }
 {

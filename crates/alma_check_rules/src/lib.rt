@@ -17,9 +17,9 @@ pub use part::{
     TypedExpr, Use,
 };
 pub use rule::{
-    no_integer, pass_argument, pass_array, pass_call, pass_chr, pass_constant, pass_desig,
-    pass_field, pass_index, pass_known, pass_literal, pass_name, pass_not, pass_operand,
-    pass_relation, pass_simple, pass_test, structured,
+    pass_argument, pass_array, pass_call, pass_chr, pass_constant, pass_desig, pass_field,
+    pass_index, pass_known, pass_literal, pass_name, pass_not, pass_operand, pass_relation,
+    pass_simple, pass_test, structured,
 };
 pub use stmt_rule::{
     pass_assign, pass_bare_return, pass_by, pass_case, pass_label, pass_loop, pass_loop_name,

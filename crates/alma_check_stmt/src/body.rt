@@ -79,7 +79,8 @@ fn read_outline(
     body: &Option<Stmts>,
 ) -> Result<Outline, NoMemory>
     requires { lines.now ≡ reader.now.source }
-    ensures shape { IfOk result (λ o. IsOutline o (frame_in reader.now frame.old) (view.view_name site.entry.name.now) site.entry.outer
+    ensures shape { IfOk result (λ o. IsOutline o (frame_in reader.now frame.old)
+        (view.view_name site.entry.name.now) site.entry.outer
         (modules.body_lines reader.now site.entry.end (view.body_of body.now))) }
     ensures slots { frame.new.slots ≡ frame.old.slots }
     ensures variables { frame.new.variables ≡ frame.old.variables }
@@ -179,7 +180,8 @@ pub fn check_own(
     requires { lines.now ≡ reader.now.source }
     ensures added { IfOk result (λ o. Adds (modules.judge_body (frame_in reader.now frame.old)
         (view.body_of body.now)) (λ n b. modules.routine_of (frame_in reader.now frame.old)
-        (view.view_name site.entry.name.now) site.entry.outer n (modules.body_lines reader.now site.entry.end
+        (view.view_name site.entry.name.now) site.entry.outer n
+        (modules.body_lines reader.now site.entry.end
         (view.body_of body.now)) b) (fault_of o) (routines_in checked.old)
         (routines_in checked.new)) }
     ensures fault { OnOk result (checked.new.fault ≡ checked.old.fault) }

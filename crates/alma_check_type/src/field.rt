@@ -184,7 +184,8 @@ pub fn join_fields(
     ensures { (before : List tree.Name) (t : Told ℕ)
         → spec.Knows t.scene.tokens fields.names.entries before
         → IfOk shape (λ x. t ≡ tells x reader.now)
-        → IfOk result (λ r. (spec.told_list (spec.join_fields (spec.shape_fields t.scene.tokens before
+        → IfOk result (λ r. (spec.told_list
+        (spec.join_fields (spec.shape_fields t.scene.tokens before
         t.value (types.all_names (view_names names.now)) (spec.told_fields fields)) t) t.scene
         ≡ spec.told_list (spec.told_fields r) reader.now)
         × spec.Knows reader.now.tokens r.names.entries

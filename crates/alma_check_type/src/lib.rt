@@ -19,5 +19,4 @@ pub use listed::{last_token, read_listed, redeclared};
 pub use name::{read_named, read_type_name};
 pub use reader::Reader;
 pub use reading::{Bound, BrokenRule, Reading, ShapeOrLimit, earlier};
-pub use shape::add_rows;
 pub use subrange::join_subrange;

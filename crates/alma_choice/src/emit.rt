@@ -98,7 +98,8 @@ impl Emit {
     fn put_marked(&mut self, line: u32, instrs: &[Instr]) -> Result<u32, NoMemory>
         ensures address { IfOk result (λ at. at ≡ length (made self.old)) }
         ensures small { IfOk result (λ at. at + length instrs.now ≤ instr_limit) }
-        ensures puts { OnOk result (Appends self.old self.new (own line instrs.now) (slot.Mark ∷ [])) }
+        ensures puts { OnOk result
+            (Appends self.old self.new (own line instrs.now) (slot.Mark ∷ [])) }
         ensures refused { OnErr result (IsAsBefore self.old self.new) }
     {
         self.reserve_slot()?;

@@ -70,7 +70,8 @@ pub fn trace_source<I: Source, O: Sink>(
     requires short { length source.now ≤ source_limit }
     requires few { steps ≤ greatest_steps }
     ensures { Runs (SourceOutcome source.now
-        (λ p. ProgramOutcome (I.side input.old).left p steps (Traces (map (λ name. name.now) names.now))))
+        (λ p. ProgramOutcome (I.side input.old).left p steps
+        (Traces (map (λ name. name.now) names.now))))
         (I.side input.old) (I.side input.new) (O.side out.old) (O.side out.new) result }
 {
     run_source(alloc, source, input, steps, Showing::Traces(names), out)

@@ -53,7 +53,8 @@ impl<'w> Options<'w> {
     // The option that a word is, where there is room for it.
     fn next_setting(&self, allowance: Allowance, word: &'w str) -> Option<Setting<'w>>
         ensures { MatchOption result
-            ((setting : plain.Setting) → plain.IsSetting word.now setting → Takes allowance self.now setting → ⊥)
+            ((setting : plain.Setting) → plain.IsSetting word.now setting
+            → Takes allowance self.now setting → ⊥)
             (λ setting. plain.IsSetting word.now (setting_in setting) × Takes allowance self.now
             (setting_in setting)) }
     {

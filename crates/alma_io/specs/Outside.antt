@@ -1,5 +1,5 @@
 -- What is outside of a call as it stands at one moment, what becomes of it, and what failed.
-use Rattle.std.specs.Prelude.{◌≡◌, ◌≢◌, ◌≤◌, ◌<◌, ◌⊎◌, List, ℕ, Option, None, Some}
+use Rattle.std.specs.Prelude.{◌≡◌, ◌≢◌, ◌≤◌, ◌<◌, ◌⊎◌, List, ℕ, Option, None, Some, Result, Ok, Err}
 use Rattle.std.specs.Io.KnownBytes.{Appends}
 use Rattle.alma_io.specs.Causes.{Rose}
 use Rattle.alma_io.specs.Files.{NowHas}
@@ -67,6 +67,11 @@ pub record Gains (old new : SinkSide) (bytes : List ℕ) : Type 0 where
 pub record FailsWithin (old new : SinkSide) (bytes : List ℕ) : Type 0 where
   pub front : AppendsFront old.written new.written bytes
   pub risen : HasRisen old.faults new.faults
+
+-- what a write of these bytes comes to: the sink gained them, or failed within them
+abbrev pub Writes : {T E : Type 0} → SinkSide → SinkSide → List ℕ → Result T E → Type 0
+Writes old new bytes (Ok _) = Gains old new bytes
+Writes old new bytes (Err _) = FailsWithin old new bytes
 
 -- ---- the call
 

@@ -29,13 +29,15 @@ fn make_buffer(alloc: Global, len: usize) -> Result<Vec<u8>, NoMemory>
 /// an error is lost.
 pub fn read_all<S: Source>(alloc: Global, source: &mut S, limit: usize) -> Result<Vec<u8>, ReadAll>
     requires limit { limit < 2 ^ 62 }
-    ensures all { IfOk result (λ bytes. Consumes (S.side source.old).left (S.side source.new).left bytes.items
+    ensures all { IfOk result
+        (λ bytes. Consumes (S.side source.old).left (S.side source.new).left bytes.items
         × IsAtEnd (S.side source.new).left) }
     ensures within { IfOk result (λ bytes. length bytes.items ≤ limit) }
     ensures too_long { IsErrOf result ReadAll.TooLong → MayHaveMore (S.side source.old).left limit }
     ensures one_past { IsErrOf result ReadAll.TooLong → LosesBytes (S.side source.old).left
         (S.side source.new).left (limit + 1) }
-    ensures prefix { OnErr result (LosesAtMost (S.side source.old).left (S.side source.new).left (limit + 1)) }
+    ensures prefix { OnErr result
+        (LosesAtMost (S.side source.old).left (S.side source.new).left (limit + 1)) }
     ensures cause { HasReadCause (S.side source.old).faults (S.side source.new).faults result }
 {
     let mut bytes = Vec::new(alloc);

@@ -66,7 +66,8 @@ fn write_global(
     global: &Variable,
 ) -> Result<(), NoMemory>
     ensures { IfOk result (λ _. (rest : Stmts) → append_stmts (stmts_list body.new.items) rest
-        ≡ append_stmts (stmts_list body.old.items) (write_global before.now (global_of global.now) rest)) }
+        ≡ append_stmts (stmts_list body.old.items)
+        (write_global before.now (global_of global.now) rest)) }
 {
     body.push(Stmt::WriteText(name_text(alloc, before, &global.name)?))?;
     if global.cells > 0 {
@@ -155,7 +156,8 @@ fn cell_range(last: u32) -> Range
 
 // The arms of an IF with one condition.
 fn when(alloc: Global, cond: Expr, body: Vec<Stmt>) -> Result<Vec<Arm>, NoMemory>
-    ensures { IfOk result (λ v. arms_list v.items ≡ more_arms (Value (expr_of cond)) (stmts_list body.items) no_arms) }
+    ensures { IfOk result (λ v. arms_list v.items
+        ≡ more_arms (Value (expr_of cond)) (stmts_list body.items) no_arms) }
 {
     one(
         alloc,

@@ -44,9 +44,11 @@ pub fn listing_program(alloc: Global, program: &Program) -> Result<Program, AllE
     ensures checked { IfOk result (λ q. IsChecked (program_of q)) }
     ensures lists { IfOk result (λ q. Lists (program_of q) (program_of program.now)) }
     ensures cost { IfOk result (λ q. CostsFew (program_of q) (program_of program.now)) }
-    ensures reads { IfOk result (λ q. program_reads (program_of q) ≡ program_reads (program_of program.now)) }
+    ensures reads { IfOk result (λ q. program_reads (program_of q)
+        ≡ program_reads (program_of program.now)) }
     ensures taken { IfOk result (λ q. HaveNoReturn (routine_at (program_of program.now) 0).body) }
-    ensures refused { result ≡ Err AllError.ModuleReturn → HaveNoReturn (routine_at (program_of program.now) 0).body → ⊥ }
+    ensures refused { result ≡ Err AllError.ModuleReturn
+        → HaveNoReturn (routine_at (program_of program.now) 0).body → ⊥ }
 {
     if has_return(&program.routines[0].body) {
         return Err(AllError::ModuleReturn);
@@ -95,7 +97,8 @@ fn copy_routines(
 ) -> Result<Vec<Routine>, NoMemory>
     requires few { length rest.now < 4294967295 }
     ensures { IfOk result (λ v. map routine_of v.items
-        ≡ spec.listing_routines (routine_of body.now ∷ map routine_of rest.now) (map global_of globals.now)) }
+        ≡ spec.listing_routines (routine_of body.now ∷ map routine_of rest.now)
+        (map global_of globals.now)) }
 {
     let number = rest.len() as u32 + 1;
     let mut copies = Vec::with_capacity(alloc, rest.len())?;

@@ -22,7 +22,8 @@ pub fn put_call_link(
     called: u32,
     up: u32,
 ) -> Result<Option<u32>, NoMemory>
-    ensures link { IfOk result (λ link. link ≡ link_slot (shift_of (around scene.now).program called)
+    ensures link { IfOk result (λ link. link
+        ≡ link_slot (shift_of (around scene.now).program called)
         up (front work.old).next) }
     ensures puts { OnOk result (Adds (front work.old) (front work.new)
         (λ at lo ls. own line (call_link_code (around scene.now).program (around scene.now).tables

@@ -19,7 +19,8 @@ pub fn put_labels(
 ) -> Result<Miss, NoMemory>
     ensures some { IfOk result (λ miss. 0 < length ranges.now) }
     ensures holes { labels.test ≡ labels.bound + 1 → IfOk result (λ miss.
-        Holes (front work.old) (front work.new) (λ to xs. aim_jump (aim_jump xs miss.low to) miss.high to)
+        Holes (front work.old) (front work.new)
+        (λ to xs. aim_jump (aim_jump xs miss.low to) miss.high to)
         (λ none at lo ls. own line (all_labels labels.value labels.bound at
         (behind_all at ranges.now) none ranges.now)) (λ ls. []) (λ ls. ls)) }
 {

@@ -29,5 +29,5 @@ pub use form::{
 };
 pub use label::put_labels;
 pub use leaf::{emit_const, emit_field, emit_line, emit_text, is_plain, slot_past, stand_at};
-pub use loops::{Bounds, Counts, begin_for, begin_some, end_for, put_count, put_step};
-pub use pass::{begin_loop, pass_desig, pass_stmts, pass_unlabelled};
+pub use loops::{Bounds, Counts, begin_for, begin_some, end_for, put_count};
+pub use pass::{begin_loop, pass_stmts, pass_unlabelled};

@@ -247,7 +247,8 @@ pub fn push_renamed(
     code: &[Instr],
     all: &[Stretch],
 ) -> Result<(), NoMemory>
-    ensures { OnOk result (instrs.new.items ≡ instrs.old.items ++ map (rename_slots (slot_in all.now))
+    ensures { OnOk result (instrs.new.items ≡ instrs.old.items
+        ++ map (rename_slots (slot_in all.now))
         code.now) }
 {
     for instr in code {

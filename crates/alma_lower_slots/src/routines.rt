@@ -59,7 +59,8 @@ fn push_instrs(
     requires sound { IsSound (code_of code.now) }
     requires exists { routine < length (code_of code.now).routines }
     requires start { length instrs.old.items ≡ start_at (code_of code.now) routine }
-    ensures { OnOk result (instrs.new.items ≡ instrs.old.items ++ map (rename_slots (slot_in all.now))
+    ensures { OnOk result (instrs.new.items ≡ instrs.old.items
+        ++ map (rename_slots (slot_in all.now))
         (instrs_in (code_of code.now) routine)) }
 {
     let start = instrs.len();
@@ -106,7 +107,8 @@ pub fn share_routines(
     requires sound { IsSound (code_of code.now) }
     requires kinds { kinds_of_all kinds.now ≡ map head_kinds code.now.routines.items }
     ensures { IfOk result (λ found. IfSome found (λ parts. SharesSoFar (code_of code.now) own.now
-        (length (code_of code.now).routines) (map routine_of parts.heads.items) parts.instrs.items)) }
+        (length (code_of code.now).routines) (map routine_of parts.heads.items)
+        parts.instrs.items)) }
 {
     let mut parts = Parts {
         heads: Vec::new(alloc),

@@ -17,7 +17,8 @@ pub fn put_links(work: &mut Work, scene: &Scene<'_>, line: u32, links: u32) -> R
     ensures slot { IfOk result (λ slot. slot ≡ (front work.old).next + links) }
     ensures puts { OnOk result (Adds (front work.old) (front work.new)
         (λ at lo ls. own line (link_code lo links))
-        (λ ls. chain_slots (around scene.now).program (around scene.now).routine links) (λ ls. ls)) }
+        (λ ls. chain_slots (around scene.now).program (around scene.now).routine links)
+        (λ ls. ls)) }
 {
     let mut routine = scene.routine;
     let mut link = work.slot(SlotKind::Link(routine))?;

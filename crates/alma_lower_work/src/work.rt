@@ -24,7 +24,8 @@ impl Work {
     #[tactic(auto, unfolding(crate::specs::Front::front))]
     pub fn put(&mut self, line: u32, instr: Instr) -> Result<u32, NoMemory>
         ensures address { IfOk result (λ at. at ≡ length (front self.old).code) }
-        ensures codes { OnOk result (Codes (front self.old) (front self.new) (own line (instr ∷ []))) }
+        ensures codes { OnOk result
+            (Codes (front self.old) (front self.new) (own line (instr ∷ []))) }
     {
         self.emit.put(line, instr)
     }
@@ -46,7 +47,8 @@ impl Work {
     ) -> Result<u32, NoMemory>
         ensures done { OnOk result (IsOk done) }
         ensures address { IfOk result (λ at. at ≡ length (front self.old).code) }
-        ensures codes { OnOk result (Codes (front self.old) (front self.new) (own line (instr ∷ []))) }
+        ensures codes { OnOk result
+            (Codes (front self.old) (front self.new) (own line (instr ∷ []))) }
     {
         done?;
         self.put(line, instr)
@@ -60,7 +62,8 @@ impl Work {
         instr: Instr,
     ) -> Result<(), NoMemory>
         ensures done { OnOk result (IsOk done) }
-        ensures codes { OnOk result (Codes (front self.old) (front self.new) (own line (instr ∷ []))) }
+        ensures codes { OnOk result
+            (Codes (front self.old) (front self.new) (own line (instr ∷ []))) }
     {
         done?;
         self.add(line, instr)

@@ -270,7 +270,8 @@ impl Shapes {
     fn place(&self, fields: &mut [FieldOf])
         requires below { AllBelow (length self.now) (fields_of fields.old) }
         requires small { sum_of_cells (cell_counts self.now) (fields_of fields.old) ≤ cell_limit }
-        ensures { fields_of fields.new ≡ place_fields (cell_counts self.now) 0 (fields_of fields.old) }
+        ensures { fields_of fields.new
+            ≡ place_fields (cell_counts self.now) 0 (fields_of fields.old) }
     {
         let mut offset: u32 = 0;
         for field in fields.iter_mut() {

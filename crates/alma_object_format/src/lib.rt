@@ -8,10 +8,10 @@ mod instr;
 mod record;
 mod walk;
 
-pub use bytes::{i64_at, push_i64, push_words, u16_at, u32_at};
+pub use bytes::{i64_at, push_i64, push_words, u32_at};
 pub use fault::ObjectFault;
 pub use header::{Header, read_header};
-pub use instr::{instr_at, is_instr, push_instr};
+pub use instr::{instr_at, push_instr};
 pub use record::{line_in, param_in, range_in, run_in};
 pub use walk::{
     code_end, code_start, name_end, name_start, params_end, params_start, runs_end, runs_start,

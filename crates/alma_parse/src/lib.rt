@@ -11,7 +11,6 @@ mod types;
 mod whole;
 
 pub use declarations::block;
-pub use ending::end_of_module;
 pub use error::ParseError;
 pub use parser::parse;
 pub use whole::module;

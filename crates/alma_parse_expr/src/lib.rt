@@ -8,6 +8,5 @@ mod node;
 mod step;
 
 pub use expression::{StmtsRead, args, desig, desig_value, expr, exprs};
-pub use leaf::{field, literal, number};
 pub use list::{boxed, present, pushed};
 pub use step::open_after;

@@ -40,7 +40,8 @@ pub fn stmts_of<'t, 's>(
     first: Box<Stmt>,
     more: Result<((Vec<Stmt>, u32), Cursor<'t, 's>), Fault<'t, 's>>,
 ) -> Result<(Stmts, Cursor<'t, 's>), Fault<'t, 's>>
-    ensures made { result ≡ made (λ v. record { node = v.1; first = first; more = v.0 }) more.entry }
+    ensures made { result
+        ≡ made (λ v. record { node = v.1; first = first; more = v.0 }) more.entry }
 {
     let ((more, node), at) = more?;
     Ok((Stmts { node, first, more }, at))
@@ -101,7 +102,8 @@ pub fn elsif_of<'t, 's>(
     test: Expr,
     then: Result<(Stmts, Cursor<'t, 's>), Fault<'t, 's>>,
 ) -> Result<(Elsif, Cursor<'t, 's>), Fault<'t, 's>>
-    ensures made { result ≡ made (λ v. df.roll-Elsif (record { test = test; then = v })) then.entry }
+    ensures made { result
+        ≡ made (λ v. df.roll-Elsif (record { test = test; then = v })) then.entry }
 {
     let (then, at) = then?;
     Ok((Elsif { test, then }, at))
@@ -222,7 +224,8 @@ pub fn label_of<'t, 's>(
     low: Expr,
     high: Result<((Option<Expr>, u32), Cursor<'t, 's>), Fault<'t, 's>>,
 ) -> Result<(Label, Cursor<'t, 's>), Fault<'t, 's>>
-    ensures made { result ≡ made (λ v. dl.roll-Label (record { node = v.1; low = low; high = v.0 })) high.entry }
+    ensures made { result
+        ≡ made (λ v. dl.roll-Label (record { node = v.1; low = low; high = v.0 })) high.entry }
 {
     let ((high, node), at) = high?;
     Ok((Label { node, low, high }, at))

@@ -77,7 +77,8 @@ fn run_verified<I: Source, O: Sink>(
     requires few { steps ≤ 2 ^ 62 }
     ensures { (p : tree.Program) → IsCodeFor p (code_of_verified code.entry)
         → (program : List ℕ) (failed : Ending) (files : FilesSide)
-        → Follows (sense program failed) program (run_on_input (program_reads p) p steps) files files
+        → Follows (sense program failed) program (run_on_input (program_reads p) p steps)
+        files files
         (I.side input.old) (I.side input.new) (O.side out.old) (O.side out.new)
         (program_end program failed result) }
 {
@@ -105,7 +106,8 @@ fn run_code<I: Source, O: Sink>(
     requires few { steps ≤ 2 ^ 62 }
     ensures { (p : tree.Program) → IsCodeFor p (code_of code.now)
         → (program : List ℕ) (failed : Ending) (files : FilesSide)
-        → Follows (sense program failed) program (run_on_input (program_reads p) p steps) files files
+        → Follows (sense program failed) program (run_on_input (program_reads p) p steps)
+        files files
         (I.side input.old) (I.side input.new) (O.side out.old) (O.side out.new)
         (program_end program failed result) }
 {
@@ -130,7 +132,8 @@ pub fn run_program<I: Source, O: Sink>(
     requires checked { IsChecked (program_of program.now) }
     requires few { steps ≤ 2 ^ 62 }
     ensures { (name : List ℕ) (failed : Ending) (files : FilesSide)
-        → Follows (sense name failed) name (run_plan name (program_of program.now) steps) files files
+        → Follows (sense name failed) name (run_plan name (program_of program.now) steps)
+        files files
         (I.side input.old) (I.side input.new) (O.side out.old) (O.side out.new)
         (program_end name failed result) }
 {

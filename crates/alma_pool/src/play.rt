@@ -153,7 +153,8 @@ pub fn judge<I: Source, O: Sink>(
 ) -> PoolEnd
     requires { length turns.now ≤ turns_limit }
     ensures { (files : FilesSide) → Follows plain program
-        (verify_plan turns.now (all_bytes objects.now)) files files (I.side input.old) (I.side input.new)
+        (verify_plan turns.now (all_bytes objects.now)) files files (I.side input.old)
+        (I.side input.new)
         (O.side out.old) (O.side out.new) (pool_end result) }
 {
     match bad_turn(objects.len(), turns) {

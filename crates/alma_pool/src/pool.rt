@@ -82,7 +82,8 @@ impl<'b, 'i> Pool<'b, 'i> {
         requires lawful { length input.now ≤ input_limit }
         ensures number { IfOk result (λ k. k ≡ length self.old.programs) }
         ensures added { OnOk result (self.new ≡ record self.old {
-          programs = self.old.programs ++ player_at_start (code_of_verified code.entry) input.now ∷ [];
+          programs = self.old.programs
+              ++ player_at_start (code_of_verified code.entry) input.now ∷ [];
         }) }
         ensures refused { OnErr result (self.new ≡ self.old) }
     {

@@ -23,7 +23,7 @@ use Rattle.alma_rules.specs.Types.{redeclared_all, type_name_rules, shape_in, re
 use Rattle.alma_rules.specs.Types.{index_type_rules, other_bounds, no_subrange, subrange_rules, is_past, size_rules, add_shape, row_on}
 use Rattle.alma_rules.specs.Types.{rows_on, rows_of, number_in, subrange_from, subrange_of, all_first, last_token, declare_values}
 use Rattle.alma_rules.specs.Types.{listed_in, read_listed, all_names, redeclared_fields, fields_with, fields_of_type, joined_fields}
-use Rattle.alma_rules.specs.Types.{record_of, field_names, joined_indices, cons_index, index_at, read_type, read_arrays}
+use Rattle.alma_rules.specs.Types.{record_of, field_names, joined_indices, cons_index, index_type_at, read_type, read_arrays}
 use Rattle.alma_rules.specs.Types.{read_dimension_tail, read_dimensions, read_plains, read_plain, read_fields, read_field_tail}
 use Rattle.alma_resolved.specs.Fits.{Place}
 use Rattle.alma_resolved.specs.Scenes.{structured_in}
@@ -274,7 +274,7 @@ constant_keeps k c s e h = record {
 
 -- an index type
 index_keeps : (k : Place) (c : ℕ) (s : Scene) (p : tree.PlainType) (r : Reading ShapeOrLimit) → ReadKeeps k c s IsFormed r
-    → ReadKeeps k c s IsIndex (index_at p r)
+    → ReadKeeps k c s IsIndex (index_type_at p r)
 index_keeps k c s p r h = keep_at k c s (tree.plain_node p) (index_type_rules r.scene) IsFormed IsIndex r h
     (λ f g q. by f (no_fault_alone (bad_index r.scene f) fault.IndexType q))
   where
@@ -367,7 +367,7 @@ mutual
   dimensions_keep k c s (tree.dimensions p rest) h =
       let a = index_keeps k c s p (read_plain s p) (plain_keeps k c s p h) in
       keep_with cons_index k c s (λ t p. IsIndex t p.0 × AreIndices t p.1) AreIndices _
-      (keep_both k c s IsIndex AreIndices (index_at p (read_plain s p)) (read_plains (read_plain s p).scene rest) index_more a
+      (keep_both k c s IsIndex AreIndices (index_type_at p (read_plain s p)) (read_plains (read_plain s p).scene rest) index_more a
       (plains_keep k c (read_plain s p).scene rest a.scene))
       (λ t p g. (g.0, g.1))
 
@@ -376,7 +376,7 @@ mutual
   plains_keep k c s (tree.more_plain p rest) h =
       let a = index_keeps k c s p (read_plain s p) (plain_keeps k c s p h) in
       keep_with cons_index k c s (λ t p. IsIndex t p.0 × AreIndices t p.1) AreIndices _
-      (keep_both k c s IsIndex AreIndices (index_at p (read_plain s p)) (read_plains (read_plain s p).scene rest) index_more a
+      (keep_both k c s IsIndex AreIndices (index_type_at p (read_plain s p)) (read_plains (read_plain s p).scene rest) index_more a
       (plains_keep k c (read_plain s p).scene rest a.scene))
       (λ t p g. (g.0, g.1))
 

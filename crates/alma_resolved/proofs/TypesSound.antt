@@ -22,7 +22,7 @@ use Rattle.alma_rules.specs.Types.{formed}
 use Rattle.alma_rules.specs.Types.{too_large, index_type_rules, subrange_rules, size_rules, add_shape, row_on, rows_on, rows_of, number_in}
 use Rattle.alma_rules.specs.Types.{subrange_from, subrange_of, all_first, last_token, declare_values, listed_in, read_listed, all_names}
 use Rattle.alma_rules.specs.Types.{redeclared_fields, fields_with, fields_of_type, joined_fields, record_of, field_names, joined_indices}
-use Rattle.alma_rules.specs.Types.{cons_index, index_at, read_type, read_arrays, read_dimension_tail, read_dimensions, read_plains}
+use Rattle.alma_rules.specs.Types.{cons_index, index_type_at, read_type, read_arrays, read_dimension_tail, read_dimensions, read_plains}
 use Rattle.alma_rules.specs.Types.{read_plain, read_fields, read_field_tail, type_names, arrays_names, dimension_tail_names}
 use Rattle.alma_rules.specs.Types.{dimensions_names, plains_names, plain_names, fields_names, field_tail_names}
 use Rattle.alma_rules.proofs.Sound.{IsThere, TypedExpr, IsTyped, nil_left, nil_right, quiet, both_there, map_there, unless_there}
@@ -175,12 +175,12 @@ listed_good lo s names from le e = by (all_first s names) refl e
 
 -- an index type past a limit breaks a rule
 index_good : (lo : ℕ) (s : Scene) (p : tree.PlainType) (r : Reading ShapeOrLimit) → (r.faults ≡ [] → GoodOrLarge lo s r)
-    → (index_at p r).faults ≡ [] → Good lo s (index_at p r)
+    → (index_type_at p r).faults ≡ [] → Good lo s (index_type_at p r)
 index_good lo s p r f e =
     let q : index_type_rules r.scene r.value ≡ [] = quiet (tree.plain_node p) r.faults (index_type_rules r.scene r.value) e in
     by (f (nil_left r.faults _ e)) q
   where
-    by : GoodOrLarge lo s r → index_type_rules r.scene r.value ≡ [] → Good lo s (index_at p r)
+    by : GoodOrLarge lo s r → index_type_rules r.scene r.value ≡ [] → Good lo s (index_type_at p r)
     by (inl large) q = absurd (let bad : index_type_rules r.scene (Some too_large) ≡ [] =
         subst (λ v. index_type_rules r.scene v ≡ []) large q in cc)
     by (inr g) q = record { grown = g.grown; there = unless_there (index_type_rules r.scene r.value) r.value q g.there }

@@ -28,7 +28,8 @@ pub fn a_resolved_program_of_a_short_source_has_room()
 pub fn resolved_programs_keep_their_slots()
     ensures { (source : List ℕ) (tokens : List Lexeme) (m : Module) (p : Program)
         → length source ≤ source_limit → IsTreeOf source tokens m →
-        resolution source tokens (view_module m) ≡ Some p → EachRoutine p (λ r routine. KeepsSlots routine) }
+        resolution source tokens (view_module m) ≡ Some p
+        → EachRoutine p (λ r routine. KeepsSlots routine) }
 {}
 
 /// The resolved program of a short source's tree is checked.

@@ -12,7 +12,7 @@ use Rattle.alma_rules.specs.Types.{type_name_rules, shape_in, read_type_name, Sh
 use Rattle.alma_rules.specs.Types.{subrange_rules}
 use Rattle.alma_rules.specs.Types.{size_rules, subrange_of, rows_of, record_of, listed_in, add_shape, declare_values, all_first}
 use Rattle.alma_rules.specs.Types.{read_listed, all_names, read_constant, read_type, read_arrays, read_dimension_tail, read_dimensions}
-use Rattle.alma_rules.specs.Types.{read_plains, read_plain, read_fields, read_field_tail, index_at, reading_then}
+use Rattle.alma_rules.specs.Types.{read_plains, read_plain, read_fields, read_field_tail, index_type_at, reading_then}
 use Rattle.alma_names.specs.Shapes.{listed}
 use Rattle.std.specs.Prelude.{length}
 use Rattle.alma_rules.specs.Rising.{rise_expr, rise_more_names, rise_type, rise_arrays, rise_dimension_tail, rise_dimensions, rise_plains}
@@ -92,7 +92,7 @@ pub constant_in : (s : Scene) (lo hi : ℕ) (e : tree.Expr) → rise_expr e lo h
 constant_in s lo hi e h = below 8 lo (tree.expr_node e) hi _ _ (omega arith) (expr_in (in_constant s) 0 lo hi e h)
 
 index_in : (p : tree.PlainType) (r : Reading ShapeOrLimit) (lo hi : ℕ) → Ends 16 lo (tree.plain_node p) hi r.faults r.value
-    → Within lo hi (index_at p r).faults
+    → Within lo hi (index_type_at p r).faults
 index_in p r lo hi h = placed 16 lo (tree.plain_node p) hi r.faults r.value (index_type_rules r.scene) (omega arith)
     (empty 17 23 (omega arith)) (index_type_order r.scene) h
 

@@ -227,8 +227,8 @@ abbrev pub cons_index : ShapeOrLimit × List ℕ → List ℕ
 cons_index p = number_in p.0 ∷ p.1
 
 -- an index type
-abbrev pub index_at : tree.PlainType → Reading ShapeOrLimit → Reading ShapeOrLimit
-index_at p r = reading_at (tree.plain_node p) (index_type_rules r.scene) r
+abbrev pub index_type_at : tree.PlainType → Reading ShapeOrLimit → Reading ShapeOrLimit
+index_type_at p r = reading_at (tree.plain_node p) (index_type_rules r.scene) r
 
 -- ---- the walk
 
@@ -248,11 +248,11 @@ unfoldable mutual
 
   pub read_dimensions : Scene → tree.Dimensions → Reading (List ℕ)
   read_dimensions s (tree.dimensions p rest) =
-      reading_with cons_index (reading_then (index_at p (read_plain s p)) (λ i. read_plains i rest))
+      reading_with cons_index (reading_then (index_type_at p (read_plain s p)) (λ i. read_plains i rest))
 
   pub read_plains : Scene → tree.PlainTail → Reading (List ℕ)
   read_plains s tree.no_plain = gives s []
-  read_plains s (tree.more_plain p rest) = reading_with cons_index (reading_then (index_at p (read_plain s p)) (λ i. read_plains i rest))
+  read_plains s (tree.more_plain p rest) = reading_with cons_index (reading_then (index_type_at p (read_plain s p)) (λ i. read_plains i rest))
 
   pub read_plain : Scene → tree.PlainType → Reading ShapeOrLimit
   read_plain s (tree.type_name n name) = reading_with formed (read_type_name s name)

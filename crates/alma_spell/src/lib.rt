@@ -7,5 +7,3 @@ mod type_node;
 mod word;
 
 pub use module::spell;
-pub use phrase::{push_expr, push_stmts};
-pub use word::push;

@@ -117,7 +117,8 @@ fn a_row_has_up_to_1048576_cells_and_elements(rt: HostRuntime) {
 }
 
 fn named(alloc: Global, name: &[u8], shape: ShapeId) -> Result<FieldOf, AllocError>
-    ensures { IfOk result (λ field. field_of field ≡ record { name = name.now; offset = 9; shape = shape.0 }) }
+    ensures { IfOk result (λ field. field_of field
+        ≡ record { name = name.now; offset = 9; shape = shape.0 }) }
 {
     Ok(FieldOf {
         name: name.to_vec(alloc)?,
@@ -134,7 +135,8 @@ fn put_fields(
     row: ShapeId,
 ) -> Result<(), AllocError>
     requires { fields.old.items ≡ [] }
-    ensures { OnOk result (fields_of fields.new.items ≡ record { name = codes "a"; offset = 9; shape = nothing.0 }
+    ensures { OnOk result (fields_of fields.new.items
+        ≡ record { name = codes "a"; offset = 9; shape = nothing.0 }
         ∷ record { name = codes "b"; offset = 9; shape = row.0 }
         ∷ record { name = codes "A"; offset = 9; shape = 0 } ∷ []) }
 {

@@ -32,7 +32,8 @@ fn tell<K: Sink>(
     ensures front { OnErr result (AppendsFront (K.side out.old).written (K.side out.new).written
         (step_text machine.now.code watches.now step machine.now.printed machine.now.state)) }
     ensures cut { IfErr result IsCut }
-    ensures cause { HasCause (K.side out.old).faults (K.side out.new).faults (all_written (cut_of result)) }
+    ensures cause { HasCause (K.side out.old).faults (K.side out.new).faults
+        (all_written (cut_of result)) }
 {
     if put_step(line, machine, step, watches).is_err() {
         return Err(RunEnd::Memory);
@@ -48,9 +49,11 @@ fn tell_steps_end<K: Sink>(line: &mut Vec<u8>, out: &mut K) -> Result<(), RunEnd
     ensures ok { OnOk result
         (Appends (K.side out.old).written (K.side out.new).written (flat_map text_line steps_end)) }
     ensures front { OnErr result
-        (AppendsFront (K.side out.old).written (K.side out.new).written (flat_map text_line steps_end)) }
+        (AppendsFront (K.side out.old).written (K.side out.new).written
+        (flat_map text_line steps_end)) }
     ensures cut { IfErr result IsCut }
-    ensures cause { HasCause (K.side out.old).faults (K.side out.new).faults (all_written (cut_of result)) }
+    ensures cause { HasCause (K.side out.old).faults (K.side out.new).faults
+        (all_written (cut_of result)) }
 {
     if put_steps_end(line).is_err() {
         return Err(RunEnd::Memory);

@@ -71,7 +71,8 @@ pub fn push_value<M: MachineMemory>(
     requires within { MatchOption at (Unit {0})
         (λ place. 0 < place.1 → place.0 + place.1 ≤ main_slots (M.picture memory.now).now) }
     requires few { main_slots (M.picture memory.now).now < 2 ^ 32 }
-    ensures { OnOk result (line.new.items ≡ line.old.items ++ value_at (M.picture memory.now).now at) }
+    ensures { OnOk result (line.new.items ≡ line.old.items
+        ++ value_at (M.picture memory.now).now at) }
 {
     match at {
         Some((slot, cells)) => push_cells(line, memory, slot, cells),

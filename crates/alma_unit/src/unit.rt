@@ -77,7 +77,8 @@ fn judge(alloc: Global, source: &[u8]) -> Result<Program, UnitError>
 
 /// The program of the named file, which is a source of at most 1,048,576 bytes.
 pub fn read_unit<F: Files>(alloc: Global, files: &mut F, name: &str) -> Result<Program, UnitError>
-    ensures same { (other : List ℕ) → (F.side files.new).told other ≡ (F.side files.old).told other }
+    ensures same { (other : List ℕ) → (F.side files.new).told other
+        ≡ (F.side files.old).told other }
     ensures store_count { (F.side files.new).store_faults ≡ (F.side files.old).store_faults }
     ensures answer { IsUnit ((F.side files.old).told name.now) name.now
         (F.side files.old).fetch_faults (F.side files.new).fetch_faults result }

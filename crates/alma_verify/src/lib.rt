@@ -20,13 +20,6 @@ mod words;
 
 pub use alma_code::VerifyFault;
 pub use fields::fits_fields;
-pub use kinds::{is_link, is_link_of, is_mark, is_number, is_place, is_place_of};
 pub use opening::{open_encoded, open_object};
-pub use reader::CodeReader;
-pub use rules::{rule_4, rule_5, rule_6, rule_7, rule_8, rule_9, rule_10, rule_11, rule_12};
-pub use seen::SeenCalls;
-pub use slots::{
-    are_cells, are_numbers, are_numbers_of_any, is_slot, kind_of, kind_of_any, length_of, link_of,
-    start_of,
-};
+pub use slots::kind_of;
 pub use verified::{Verified, verify};

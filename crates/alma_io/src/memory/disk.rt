@@ -141,7 +141,8 @@ impl Files for MemFiles {
     fn store(&mut self, alloc: Global, name: &str, bytes: &[u8]) -> Result<(), StoreFault>
         ensures others { (other : List ℕ) → other ≢ name.now →
             told_by (map.get self.new.files other) ≡ told_by (map.get self.old.files other) }
-        ensures fetch_count { for_all_names self.new.fetch_faults ≡ for_all_names self.old.fetch_faults }
+        ensures fetch_count { for_all_names self.new.fetch_faults
+            ≡ for_all_names self.old.fetch_faults }
         ensures answer { IsStored (told_by (map.get self.old.files name.now))
             (told_by (map.get self.new.files name.now))
             bytes.now self.old.store_faults self.new.store_faults result }
