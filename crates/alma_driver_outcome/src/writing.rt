@@ -16,12 +16,9 @@ use alma_source::SourceFault;
 use itoa::Buffer;
 
 // Writes a line of two parts.
-fn write_line<E: Sink>(err: &mut E, front: &[u8], back: &[u8]) -> Result<(), WriteFault>
-    ensures ok { OnOk result (Appends (E.side err.old).written (E.side err.new).written
-        (front.now ++ (back.now ++ codes "\n"))) }
-    ensures front { OnErr result (AppendsFront (E.side err.old).written (E.side err.new).written
-        (front.now ++ (back.now ++ codes "\n"))) }
-    ensures cause { HasCause (E.side err.old).faults (E.side err.new).faults result }
+fn write_line<E: Sink>(err: &mut E, front: &[u8], back: &[u8]) -> Result<(), Failed>
+    ensures { Writes (E.side err.old) (E.side err.new)
+        (front.now ++ (back.now ++ codes "\n")) result }
 {
     write_parts(err, &[front, back, b"\n".as_slice()])
 }
@@ -33,12 +30,9 @@ fn write_refusal_line<E: Sink>(
     line: &[u8],
     column: &[u8],
     fault: &[u8],
-) -> Result<(), WriteFault>
-    ensures ok { OnOk result (Appends (E.side err.old).written (E.side err.new).written
-        (refusal_line file.now line.now column.now fault.now)) }
-    ensures front { OnErr result (AppendsFront (E.side err.old).written (E.side err.new).written
-        (refusal_line file.now line.now column.now fault.now)) }
-    ensures cause { HasCause (E.side err.old).faults (E.side err.new).faults result }
+) -> Result<(), Failed>
+    ensures { Writes (E.side err.old) (E.side err.new)
+        (refusal_line file.now line.now column.now fault.now) result }
 {
     let colon = b":".as_slice();
     let blank = b": ".as_slice();
@@ -52,12 +46,8 @@ fn write_refusal<E: Sink>(
     file: &str,
     fault: SourceFault,
     place: Place,
-) -> Result<(), WriteFault>
-    ensures ok { OnOk result (Appends (E.side err.old).written (E.side err.new).written
-        (refusal_text file.now fault place)) }
-    ensures front { OnErr result (AppendsFront (E.side err.old).written (E.side err.new).written
-        (refusal_text file.now fault place)) }
-    ensures cause { HasCause (E.side err.old).faults (E.side err.new).faults result }
+) -> Result<(), Failed>
+    ensures { Writes (E.side err.old) (E.side err.new) (refusal_text file.now fault place) result }
 {
     let mut line = Buffer::new();
     let mut column = Buffer::new();
@@ -67,12 +57,8 @@ fn write_refusal<E: Sink>(
 }
 
 // Writes the fault of a run, and its line where it is known.
-fn write_fault<E: Sink>(err: &mut E, fault: RunFault, line: u32) -> Result<(), WriteFault>
-    ensures ok { OnOk result (Appends (E.side err.old).written (E.side err.new).written
-        (fault_text fault line)) }
-    ensures front { OnErr result (AppendsFront (E.side err.old).written (E.side err.new).written
-        (fault_text fault line)) }
-    ensures cause { HasCause (E.side err.old).faults (E.side err.new).faults result }
+fn write_fault<E: Sink>(err: &mut E, fault: RunFault, line: u32) -> Result<(), Failed>
+    ensures { Writes (E.side err.old) (E.side err.new) (fault_text fault line) result }
 {
     let front = b"alma: fault ".as_slice();
     let name = fault.text().as_bytes();
@@ -86,12 +72,8 @@ fn write_fault<E: Sink>(err: &mut E, fault: RunFault, line: u32) -> Result<(), W
 }
 
 // Writes the fault of bytes that are no object, and its number where it has one.
-fn write_object_fault<E: Sink>(err: &mut E, fault: ObjectFault) -> Result<(), WriteFault>
-    ensures ok { OnOk result (Appends (E.side err.old).written (E.side err.new).written
-        (object_text fault)) }
-    ensures front { OnErr result (AppendsFront (E.side err.old).written (E.side err.new).written
-        (object_text fault)) }
-    ensures cause { HasCause (E.side err.old).faults (E.side err.new).faults result }
+fn write_object_fault<E: Sink>(err: &mut E, fault: ObjectFault) -> Result<(), Failed>
+    ensures { Writes (E.side err.old) (E.side err.new) (object_text fault) result }
 {
     let front = b"alma: object ".as_slice();
     let name = fault.name();
@@ -107,12 +89,8 @@ fn write_object_fault<E: Sink>(err: &mut E, fault: ObjectFault) -> Result<(), Wr
 }
 
 // Writes the line of a broken rule, by the texts in it.
-fn write_rule_line<E: Sink>(err: &mut E, rule: &[u8], at: &[u8]) -> Result<(), WriteFault>
-    ensures ok { OnOk result (Appends (E.side err.old).written (E.side err.new).written
-        (rule_line rule.now at.now)) }
-    ensures front { OnErr result (AppendsFront (E.side err.old).written (E.side err.new).written
-        (rule_line rule.now at.now)) }
-    ensures cause { HasCause (E.side err.old).faults (E.side err.new).faults result }
+fn write_rule_line<E: Sink>(err: &mut E, rule: &[u8], at: &[u8]) -> Result<(), Failed>
+    ensures { Writes (E.side err.old) (E.side err.new) (rule_line rule.now at.now) result }
 {
     let front = b"alma: object Rule ".as_slice();
     let blank = b" ".as_slice();
@@ -121,12 +99,8 @@ fn write_rule_line<E: Sink>(err: &mut E, rule: &[u8], at: &[u8]) -> Result<(), W
 }
 
 // Writes the first rule that the code of an object breaks, and where.
-fn write_rule<E: Sink>(err: &mut E, fault: VerifyFault) -> Result<(), WriteFault>
-    ensures ok { OnOk result (Appends (E.side err.old).written (E.side err.new).written
-        (rule_text fault)) }
-    ensures front { OnErr result (AppendsFront (E.side err.old).written (E.side err.new).written
-        (rule_text fault)) }
-    ensures cause { HasCause (E.side err.old).faults (E.side err.new).faults result }
+fn write_rule<E: Sink>(err: &mut E, fault: VerifyFault) -> Result<(), Failed>
+    ensures { Writes (E.side err.old) (E.side err.new) (rule_text fault) result }
 {
     let mut rule = Buffer::new();
     let mut at = Buffer::new();
@@ -141,12 +115,9 @@ fn write_counts_line<E: Sink>(
     steps: &[u8],
     choices: &[u8],
     fails: &[u8],
-) -> Result<(), WriteFault>
-    ensures ok { OnOk result (Appends (E.side err.old).written (E.side err.new).written
-        (counts_line steps.now choices.now fails.now)) }
-    ensures front { OnErr result (AppendsFront (E.side err.old).written (E.side err.new).written
-        (counts_line steps.now choices.now fails.now)) }
-    ensures cause { HasCause (E.side err.old).faults (E.side err.new).faults result }
+) -> Result<(), Failed>
+    ensures { Writes (E.side err.old) (E.side err.new)
+        (counts_line steps.now choices.now fails.now) result }
 {
     let first = b"steps ".as_slice();
     let second = b" choices ".as_slice();
@@ -156,12 +127,8 @@ fn write_counts_line<E: Sink>(
 }
 
 // Writes counts.
-fn write_known_counts<E: Sink>(err: &mut E, counts: Counts) -> Result<(), WriteFault>
-    ensures ok { OnOk result (Appends (E.side err.old).written (E.side err.new).written
-        (counts_text (Some counts))) }
-    ensures front { OnErr result (AppendsFront (E.side err.old).written (E.side err.new).written
-        (counts_text (Some counts))) }
-    ensures cause { HasCause (E.side err.old).faults (E.side err.new).faults result }
+fn write_known_counts<E: Sink>(err: &mut E, counts: Counts) -> Result<(), Failed>
+    ensures { Writes (E.side err.old) (E.side err.new) (counts_text (Some counts)) result }
 {
     let mut steps = Buffer::new();
     let mut choices = Buffer::new();
@@ -174,12 +141,8 @@ fn write_known_counts<E: Sink>(err: &mut E, counts: Counts) -> Result<(), WriteF
 
 // Writes the line of counts, where there are any.
 #[tactic(auto, using(alma_io::proofs::Known::appends_none))]
-fn write_counts<E: Sink>(err: &mut E, counts: Option<Counts>) -> Result<(), WriteFault>
-    ensures ok { OnOk result (Appends (E.side err.old).written (E.side err.new).written
-        (counts_text counts)) }
-    ensures front { OnErr result (AppendsFront (E.side err.old).written (E.side err.new).written
-        (counts_text counts)) }
-    ensures cause { HasCause (E.side err.old).faults (E.side err.new).faults result }
+fn write_counts<E: Sink>(err: &mut E, counts: Option<Counts>) -> Result<(), Failed>
+    ensures { Writes (E.side err.old) (E.side err.new) (counts_text counts) result }
 {
     match counts {
         Some(counts) => write_known_counts(err, counts),
@@ -188,12 +151,8 @@ fn write_counts<E: Sink>(err: &mut E, counts: Option<Counts>) -> Result<(), Writ
 }
 
 // Writes the text of an end behind its counts, where the words name this file.
-fn write_text<E: Sink>(err: &mut E, file: &str, end: End) -> Result<(), WriteFault>
-    ensures ok { OnOk result (Appends (E.side err.old).written (E.side err.new).written
-        (end_text file.now end)) }
-    ensures front { OnErr result (AppendsFront (E.side err.old).written (E.side err.new).written
-        (end_text file.now end)) }
-    ensures cause { HasCause (E.side err.old).faults (E.side err.new).faults result }
+fn write_text<E: Sink>(err: &mut E, file: &str, end: End) -> Result<(), Failed>
+    ensures { Writes (E.side err.old) (E.side err.new) (end_text file.now end) result }
 {
     let mut digits = Buffer::new();
     match end {
@@ -212,12 +171,8 @@ fn write_text<E: Sink>(err: &mut E, file: &str, end: End) -> Result<(), WriteFau
 }
 
 // Writes counts, where an end has them, and its text.
-fn write_end<E: Sink>(err: &mut E, file: &str, end: End) -> Result<(), WriteFault>
-    ensures ok { OnOk result (Appends (E.side err.old).written (E.side err.new).written
-        (text_of file.now end)) }
-    ensures front { OnErr result (AppendsFront (E.side err.old).written (E.side err.new).written
-        (text_of file.now end)) }
-    ensures cause { HasCause (E.side err.old).faults (E.side err.new).faults result }
+fn write_end<E: Sink>(err: &mut E, file: &str, end: End) -> Result<(), Failed>
+    ensures { Writes (E.side err.old) (E.side err.new) (text_of file.now end) result }
 {
     match write_counts(err, end.counts()) {
         Ok(()) => write_text(err, file, end),

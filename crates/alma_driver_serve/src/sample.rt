@@ -29,12 +29,9 @@ fn write_summary_line<O: Sink>(
     bytes: &[u8],
     printed: &[u8],
     status: &[u8],
-) -> Result<(), WriteFault>
-    ensures ok { OnOk result (Appends (O.side out.old).written (O.side out.new).written
-        (summary_line lines.now bytes.now printed.now status.now)) }
-    ensures front { OnErr result (AppendsFront (O.side out.old).written (O.side out.new).written
-        (summary_line lines.now bytes.now printed.now status.now)) }
-    ensures cause { HasCause (O.side out.old).faults (O.side out.new).faults result }
+) -> Result<(), Failed>
+    ensures { Writes (O.side out.old) (O.side out.new)
+        (summary_line lines.now bytes.now printed.now status.now) result }
 {
     let first = b"lines ".as_slice();
     let second = b" bytes ".as_slice();
@@ -56,12 +53,9 @@ fn write_summary<O: Sink>(
     bytes: usize,
     printed: usize,
     status: u8,
-) -> Result<(), WriteFault>
-    ensures ok { OnOk result (Appends (O.side out.old).written (O.side out.new).written
-        (sample_line lines bytes printed status)) }
-    ensures front { OnErr result (AppendsFront (O.side out.old).written (O.side out.new).written
-        (sample_line lines bytes printed status)) }
-    ensures cause { HasCause (O.side out.old).faults (O.side out.new).faults result }
+) -> Result<(), Failed>
+    ensures { Writes (O.side out.old) (O.side out.new)
+        (sample_line lines bytes printed status) result }
 {
     let mut first = Buffer::new();
     let mut second = Buffer::new();

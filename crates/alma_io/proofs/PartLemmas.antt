@@ -3,7 +3,7 @@ use Rattle.std.proofs.Common.{◌≡◌, ◌<◌, ◌≤◌, ◌+◌, ℕ, List,
 use Rattle.std.proofs.Common.{drop-cons, []}
 use Rattle.std.proofs.lemmas.List.{take-append-drop, append-nil}
 use Rattle.std.proofs.lemmas.List.Concat.{flat_map-append}
-use Rattle.std.specs.Prelude.{Option, Result, Ok, Err, flat_map}
+use Rattle.std.specs.Prelude.{Option, Result, Ok, Err, is_err, true, false, flat_map}
 use Rattle.std.specs.Borrow.{Bor}
 use Rattle.std.specs.Io.KnownBytes.{Appends}
 use Rattle.alma_io.specs.Causes.{Rose}
@@ -60,3 +60,14 @@ fails_more a b bytes more x = record {
   front = (x.front.0, x.front.1 ++ more, ap (λ z. z ++ more) x.front.2 ∙ append_assoc x.front.0 x.front.1 more, x.front.3);
   risen = x.risen;
 }
+
+-- a write that is no error gained its bytes
+pub gains_of : {T E : Type 0} (r : Result T E) (a b : SinkSide) (bytes : List ℕ) → is_err r ≡ false → Writes a b bytes r → Gains a b bytes
+gains_of (Ok v) a b bytes e x = x
+gains_of (Err fault) a b bytes e x = absurd (cc)
+
+-- a write that is an error failed within its bytes
+pub fails_of : {T E : Type 0} (r : Result T E) (a b : SinkSide) (bytes : List ℕ) → is_err r ≡ true → Writes a b bytes r
+    → FailsWithin a b bytes
+fails_of (Ok v) a b bytes e x = absurd (cc)
+fails_of (Err fault) a b bytes e x = x

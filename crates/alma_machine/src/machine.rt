@@ -133,11 +133,7 @@ pub fn advance<M: MachineMemory, V: CodeView>(
 // Writes what a step printed; the sink is called only where it printed.
 fn write_printed<K: Sink>(step: Step, printed: &[u8], out: &mut K) -> Result<(), WriteFault>
     requires quiet { PrintsOnly step printed.now }
-    ensures ok { OnOk result
-        (Appends (K.side out.old).written (K.side out.new).written printed.now) }
-    ensures front { OnErr result
-        (AppendsFront (K.side out.old).written (K.side out.new).written printed.now) }
-    ensures cause { HasCause (K.side out.old).faults (K.side out.new).faults result }
+    ensures { Writes (K.side out.old) (K.side out.new) printed.now result }
 {
     match step {
         Step::Printed => write_all(out, printed),

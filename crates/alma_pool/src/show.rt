@@ -41,12 +41,9 @@ fn show_parts<'t, O: Sink>(
     word: &'t [u8],
     fault: &'t [u8],
     output: &'t [u8],
-) -> Result<(), WriteFault>
-    ensures ok { OnOk result (Appends (O.side out.old).written (O.side out.new).written
-        (program_lines number (word.now ++ fault.now) output.now)) }
-    ensures front { OnErr result (AppendsFront (O.side out.old).written (O.side out.new).written
-        (program_lines number (word.now ++ fault.now) output.now)) }
-    ensures cause { HasCause (O.side out.old).faults (O.side out.new).faults result }
+) -> Result<(), Failed>
+    ensures { Writes (O.side out.old) (O.side out.new)
+        (program_lines number (word.now ++ fault.now) output.now) result }
 {
     let mut number_digits = Buffer::new();
     let mut count_digits = Buffer::new();
@@ -65,14 +62,11 @@ fn show_parts<'t, O: Sink>(
 }
 
 // Writes the lines of the program of a number.
-fn show_one<O: Sink>(pool: &Pool<'_, '_>, k: usize, out: &mut O) -> Result<(), WriteFault>
+fn show_one<O: Sink>(pool: &Pool<'_, '_>, k: usize, out: &mut O) -> Result<(), Failed>
     requires there { k < length pool.now.programs }
     requires whole { IsTrue pool.now.whole }
-    ensures ok { OnOk result (Appends (O.side out.old).written (O.side out.new).written
-        (program_text (k + 1) (seen_of (program_at pool.now k)))) }
-    ensures front { OnErr result (AppendsFront (O.side out.old).written (O.side out.new).written
-        (program_text (k + 1) (seen_of (program_at pool.now k)))) }
-    ensures cause { HasCause (O.side out.old).faults (O.side out.new).faults result }
+    ensures { Writes (O.side out.old) (O.side out.new)
+        (program_text (k + 1) (seen_of (program_at pool.now k))) result }
 {
     // The count bounds `k + 1`: it is a usize, and `k` is below it.
     let _count = pool.count();
@@ -87,13 +81,9 @@ fn show_one<O: Sink>(pool: &Pool<'_, '_>, k: usize, out: &mut O) -> Result<(), W
 }
 
 /// Writes the lines of all programs, in the order of their numbers.
-pub fn show_all<O: Sink>(pool: &Pool<'_, '_>, out: &mut O) -> Result<(), WriteFault>
+pub fn show_all<O: Sink>(pool: &Pool<'_, '_>, out: &mut O) -> Result<(), Failed>
     requires { IsTrue pool.now.whole }
-    ensures ok { OnOk result (Appends (O.side out.old).written (O.side out.new).written
-        (shown_text 0 pool.now.programs)) }
-    ensures front { OnErr result (AppendsFront (O.side out.old).written (O.side out.new).written
-        (shown_text 0 pool.now.programs)) }
-    ensures cause { HasCause (O.side out.old).faults (O.side out.new).faults result }
+    ensures { Writes (O.side out.old) (O.side out.new) (shown_text 0 pool.now.programs) result }
 {
     for k in 0..pool.count() {
         show_one(pool, k, out)?;
