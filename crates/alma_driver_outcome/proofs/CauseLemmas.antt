@@ -16,7 +16,8 @@ use Rattle.alma_code.specs.declared.step.End.TheVariants as code_end
 use Rattle.alma_driver_outcome.specs.Words.{read_by, limit_of}
 use Rattle.alma_driver_outcome.specs.Showing.{Showing, Prints, Traces, counts_shown}
 use Rattle.alma_io.specs.Sides.{SinkSide, SourceSide, FilesSide}
-use Rattle.alma_io.specs.Outside.{FilesStay, Outside, StoredFile, OthersStay, WriteFailed, WritesGrew, ReadsGrew, Become}
+use Rattle.alma_io.specs.Outside.{FilesStay, Outside, StoredFile, OthersStay, WriteFailed, WritesGrew, ReadsGrew, Become, Gains}
+use Rattle.alma_io.specs.Outside.{FailsWithin}
 use Rattle.alma_driver_outcome.specs.declared.end.Counts.{Counts}
 use Rattle.alma_driver_outcome.specs.Ends.{mode_end, counts_in, status_of, text_of}
 use Rattle.alma_driver_outcome.specs.Outcome.{Due, InputOutcome, unread, taken, past_input, ProgramOutcome, ran, too_much_code}
@@ -24,7 +25,7 @@ use Rattle.alma_driver_outcome.specs.Outcome.{CompileOutcome, made, past_size, I
 use Rattle.alma_driver_outcome.specs.Outcome.{CheckOutcome, ListOutcome, listed, no_object, CodeOutcome, executed, unsound, ExecOutcome}
 use Rattle.alma_driver_outcome.specs.Outcome.{opened, unopened, SampleOutcome, summed, FileOutcome, RequestOutcome, absent, past_limit}
 use Rattle.alma_driver_outcome.specs.Outcome.{fetched, unfetched, Outcome, bad_word, asks, AskToRead, Lacks}
-use Rattle.alma_driver_outcome.specs.Course.{Gains, FailsWithin, GainsPrefix, Goes, FailsToStore, Keeps, Stores, done, failed}
+use Rattle.alma_driver_outcome.specs.Course.{GainsPrefix, Goes, FailsToStore, Keeps, Stores, done, failed}
 use Rattle.alma_driver_outcome.specs.Course.{Works, Takes, ReadsWhole, Moves, MayRead, ReadsOnly, FailsToRead, Serves, FailsToFetch}
 use Rattle.alma_driver_outcome.specs.Course.{Performs, Reports, Answers}
 use Rattle.alma_driver_outcome.specs.Causes.{Causes, FetchFailed, InputFailed, IsStoredName}
@@ -332,28 +333,28 @@ read_fault_of words before after status x e = by_parts (ways words before after 
   by_course (over n m due q o g s) r =
       let due_read = outcome_reads before.files.told before.input.left words due o.0 (q ∙ r) in (
         inr (inr due_read.0),
-        subst (Appends before.out.written after.out.written) due_read.1 g.0,
+        subst (Appends before.out.written after.out.written) due_read.1 g.bytes_are,
         subst (Become before.files after.files) due_read.2 s,
       )
   by_course (unstored q due stored o is g s) r = cc (q, r)
 
   by_parts : Ways words before after x.end → ReportOf words before after x.end status → ReadFaultIs words before after
   by_parts p (inr r) = absurd (omega (arith, e, r.0))
-  by_parts (no_fetch p) (inl r) = (inl (p.0.1.0, p.0.1.2, p.0.1.1.1), p.0.3.0, p.0.2)
-  by_parts (no_read f p) (inl r) = (inr (inl (p.1.3.1, p.1.1)), p.1.4.0, p.0)
+  by_parts (no_fetch p) (inl r) = (inl (p.0.1.0, p.0.1.2, p.0.1.1.1), p.0.3.bytes_are, p.0.2)
+  by_parts (no_read f p) (inl r) = (inr (inl (p.1.3.1, p.1.1)), p.1.4.bytes_are, p.0)
   by_parts (works f i p) (inl r) = by_course p (read_status x.end (sym r.0 ∙ e))
 
 write_fault_of : (words : List (List ℕ)) (before after : Outside) (status : ℕ) → Answers words before after status → status ≡ 7
     → WriteFailed before after
 write_fault_of words before after status x e = by_parts (ways words before after x.end x.performed) x.reported where
   by_course : CourseOf words before after x.end → status_of x.end ≡ 7 → WriteFailed before after
-  by_course (cut q due o f s) r = inl f.1.1
+  by_course (cut q due o f s) r = inl f.risen.1
   by_course (hungry q g k s) r = absurd (omega (arith, r, ap status_of q))
   by_course (over n m due q o g s) r = absurd (n r)
   by_course (unstored q due stored o is g s) r = inr (inr s.1.1)
 
   by_parts : Ways words before after x.end → ReportOf words before after x.end status → WriteFailed before after
-  by_parts p (inr r) = inr (inl r.1.1.1)
+  by_parts p (inr r) = inr (inl r.1.risen.1)
   by_parts (no_fetch p) (inl r) = absurd (omega (arith, e, r.0, ap status_of p.0.0))
   by_parts (no_read f p) (inl r) = absurd (omega (arith, e, r.0, ap status_of p.1.0))
   by_parts (works f i p) (inl r) = by_course p (sym r.0 ∙ e)
@@ -368,14 +369,14 @@ prefix_of : (words : List (List ℕ)) (before after : Outside) (status : ℕ) �
     → GainsPrefix (Outcome words before.files.told before.input.left) before.out after.out
 prefix_of words before after status x = by_parts (ways words before after x.end x.performed) where
   by_course : CourseOf words before after x.end → GainsPrefix (DueOf words before) before.out after.out
-  by_course (cut q due o f s) = inr (due, o.0, f.0)
+  by_course (cut q due o f s) = inr (due, o.0, f.front)
   by_course (hungry q g k s) = prefix_due words before after g
-  by_course (over n m due q o g s) = inr (due, o.0, whole_front before.out.written after.out.written due.out g.0)
-  by_course (unstored q due stored o is g s) = inr (due, o.0, whole_front before.out.written after.out.written due.out g.0)
+  by_course (over n m due q o g s) = inr (due, o.0, whole_front before.out.written after.out.written due.out g.bytes_are)
+  by_course (unstored q due stored o is g s) = inr (due, o.0, whole_front before.out.written after.out.written due.out g.bytes_are)
 
   by_parts : Ways words before after x.end → GainsPrefix (DueOf words before) before.out after.out
-  by_parts (no_fetch p) = inl p.0.3.0
-  by_parts (no_read f p) = inl p.1.4.0
+  by_parts (no_fetch p) = inl p.0.3.bytes_are
+  by_parts (no_read f p) = inl p.1.4.bytes_are
   by_parts (works f i p) = by_course p
 
 -- the files stay, but for one that is to be stored
@@ -467,7 +468,7 @@ writes_shown_of words before after status x w = by_parts w (ways words before af
   by_out : before.out.faults < after.out.faults → CourseOf words before after x.end → status ≡ status_of x.end → (status ≡ 7) ⊎ (status ≡ 8)
   by_out h (cut q due o f s) r = inl (r ∙ ap status_of q)
   by_out h (hungry q g k s) r = absurd (omega (arith, h, k))
-  by_out h (over n m due q o g s) r = absurd (omega (arith, h, g.1))
+  by_out h (over n m due q o g s) r = absurd (omega (arith, h, g.quiet))
   by_out h (unstored q due stored o is g s) r = inl (r ∙ ap status_of q)
 
   by_store : before.files.store_faults < after.files.store_faults → CourseOf words before after x.end → status ≡ status_of x.end
@@ -480,10 +481,10 @@ writes_shown_of words before after status x w = by_parts w (ways words before af
   by_parts : WritesGrew before after → Ways words before after x.end → ReportOf words before after x.end status → (status ≡ 7)
       ⊎ (status ≡ 8)
   by_parts w p (inr r) = inl r.0
-  by_parts (inr (inl h)) p (inl r) = absurd (omega (arith, h, r.1.1))
-  by_parts (inl h) (no_fetch p) (inl r) = absurd (omega (arith, h, p.0.3.1))
+  by_parts (inr (inl h)) p (inl r) = absurd (omega (arith, h, r.1.quiet))
+  by_parts (inl h) (no_fetch p) (inl r) = absurd (omega (arith, h, p.0.3.quiet))
   by_parts (inr (inr h)) (no_fetch p) (inl r) = absurd (omega (arith, h, p.0.2.1))
-  by_parts (inl h) (no_read f p) (inl r) = absurd (omega (arith, h, p.1.4.1))
+  by_parts (inl h) (no_read f p) (inl r) = absurd (omega (arith, h, p.1.4.quiet))
   by_parts (inr (inr h)) (no_read f p) (inl r) = absurd (omega (arith, h, p.0.1))
   by_parts (inl h) (works f i p) (inl r) = by_out h p r.0
   by_parts (inr (inr h)) (works f i p) (inl r) = by_store h p r.0
@@ -498,7 +499,7 @@ reads_shown_of : (words : List (List ℕ)) (before after : Outside) (status : �
 reads_shown_of words before after status x grew = by_parts grew (ways words before after x.end x.performed) x.reported where
   by_parts : ReadsGrew before after → Ways words before after x.end → ReportOf words before after x.end status → WriteFailed before after
       ⊎ ((status ≡ 6) ⊎ (status ≡ 8))
-  by_parts g p (inr r) = inl (inr (inl r.1.1.1))
+  by_parts g p (inr r) = inl (inr (inl r.1.risen.1))
   by_parts g (no_fetch p) (inl r) = inr (inl (r.0 ∙ ap status_of p.0.0))
   by_parts g (no_read f p) (inl r) = inr (inl (r.0 ∙ ap status_of p.1.0))
   by_parts (inl h) (works f i p) (inl r) = absurd (omega (arith, h.1, ap (λ (c : List ℕ → ℕ). c h.0) f))

@@ -40,7 +40,7 @@ use Rattle.alma_driver_words.specs.Words.{Request, Check, Compile, Listing, Run,
 use Rattle.alma_driver_outcome.specs.Words.{read_by, limit_of, IsReadBy}
 use Rattle.alma_driver_outcome.specs.Showing.{Showing, Prints}
 use Rattle.alma_io.specs.Sides.{SinkSide, SourceSide, FilesSide}
-use Rattle.alma_io.specs.Outside.{FilesStay, StoredFile, OthersStay, MayBeLeft}
+use Rattle.alma_io.specs.Outside.{FilesStay, StoredFile, OthersStay, MayBeLeft, Gains}
 use Rattle.alma_base.specs.declared.place.Place.{Place}
 use Rattle.alma_scan.specs.Places.{line_at, column_at}
 use Rattle.alma_source.specs.Refusal.{IsRefused, IsProgramOf, place_of}
@@ -52,7 +52,7 @@ use Rattle.alma_driver_outcome.specs.Outcome.{past_size, IsSourceEnd, refused, I
 use Rattle.alma_driver_outcome.specs.Outcome.{ListOutcome, listed, no_object, CodeOutcome, executed, unsound, ExecOutcome, opened, unopened}
 use Rattle.alma_driver_outcome.specs.Outcome.{FileOutcome, SampleOutcome, summed, RequestOutcome, absent, past_limit, fetched, unfetched}
 use Rattle.alma_driver_outcome.specs.Outcome.{Outcome, bad_word, asks, AskToRead}
-use Rattle.alma_driver_outcome.specs.Course.{Gains, GainsPrefix, Goes, Keeps, done, failed, Works, Takes, ReadsWhole, Moves}
+use Rattle.alma_driver_outcome.specs.Course.{GainsPrefix, Goes, Keeps, done, failed, Works, Takes, ReadsWhole, Moves}
 use Rattle.alma_driver_outcome.specs.Course.{MayRead, ReadsOnly, FailsToRead, Runs, Serves, Performs}
 use Rattle.alma_driver_words.specs.declared.words.WordsError.{WordsError}
 use Rattle.alma_driver_words.specs.declared.words.WordsError.TheVariants as words
@@ -82,7 +82,7 @@ goes_map P Q f a b (TooMuchCode size) g = (g.0, g.1, f g.0 g.2, g.3)
 
 -- a sink that nothing was done to gained nothing
 pub gains_none : (a : SinkSide) → Gains a a []
-gains_none a = (appends_none a.written, refl)
+gains_none a = record { bytes_are = appends_none a.written; quiet = refl }
 
 -- memory was wanted before the first print
 pub goes_starved : (P : Due → Type 0) (a : SinkSide) → Goes P a a Memory

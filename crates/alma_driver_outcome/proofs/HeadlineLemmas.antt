@@ -19,14 +19,13 @@ use Rattle.alma_driver_words.specs.Words.{Request, Run, file_of}
 use Rattle.alma_driver_words.proofs.WordLemmas.{one_request}
 use Rattle.alma_driver_outcome.specs.Words.{read_by}
 use Rattle.alma_driver_outcome.specs.Showing.{Prints}
-use Rattle.alma_io.specs.Outside.{Outside, IsUndisturbed, MayBeLeft}
+use Rattle.alma_io.specs.Outside.{Outside, IsUndisturbed, MayBeLeft, Gains}
 use Rattle.alma_driver_outcome.specs.Ends.{status_of, text_of, counts_text}
 use Rattle.alma_source.specs.Refusal.{IsProgramOf, place_of}
 use Rattle.alma_driver_outcome.specs.Outcome.{Due, silent, code_due, InputOutcome, unread, taken, past_input, ProgramOutcome}
 use Rattle.alma_driver_outcome.specs.Outcome.{ran, too_much_code, told_end, MeansOn, IsSourceEnd, refused, SourceOutcome, stopped}
 use Rattle.alma_driver_outcome.specs.Outcome.{compiled, RequestOutcome, absent, past_limit, fetched, unfetched, Outcome, bad_word, asks}
 use Rattle.alma_driver_outcome.specs.Outcome.{Lacks}
-use Rattle.alma_driver_outcome.specs.Course.{Gains}
 use Rattle.alma_driver_outcome.specs.Causes.{Causes, FetchFailed, InputFailed}
 use Rattle.alma_driver_outcome.specs.Headline.{AsksToRun, ShowsResult, RunEnds, refuses, too_large, ended, ran_out}
 use Rattle.alma_driver_outcome.specs.Headline.{meant_status, meant_text}

@@ -1,7 +1,7 @@
 -- Parts that are written one after another.
 use Rattle.std.proofs.Common.{◌≡◌, ◌+◌, ℕ, zero, suc, List, [], ◌++◌, refl, ap, sym, ◌∙◌}
 use Rattle.std.proofs.Common.{append_assoc}
-use Rattle.std.specs.Prelude.{Option, None, Some, Result, Ok, Err, OnOk, OnErr, codes, decimal}
+use Rattle.std.specs.Prelude.{None, Some, codes, decimal}
 use Rattle.alma_base.specs.Fault.{run_fault_text}
 use Rattle.alma_base.specs.declared.fault.RunFault.{RunFault}
 use Rattle.alma_code.specs.Lines.{known_line}
@@ -10,9 +10,6 @@ use Rattle.alma_object_format.specs.Fault.{object_fault_name, object_fault_numbe
 use Rattle.alma_driver_outcome.specs.Ends.{fault_text, number_text, object_text}
 use Rattle.alma_run_laws.specs.Shown.{line_text}
 use Rattle.alma_driver_outcome.specs.Ends.{rule_line, counts_line}
-use Rattle.std.specs.Io.KnownBytes.{Appends}
-use Rattle.alma_io.specs.Fronts.{AppendsFront}
-use Rattle.alma_io.proofs.Known.{appends_trans}
 
 -- the parts of the text of a fault whose line is not known
 pub unknown_parts : (fault : RunFault) (line : ℕ) (front name end : List ℕ) → line ≡ 0 → front ≡ codes "alma: fault "
@@ -77,22 +74,3 @@ counts_parts first steps second choices third fails end f s t e =
     ∙ ap (λ x. codes "steps " ++ (steps ++ (x ++ (choices ++ (third ++ (fails ++ (end ++ []))))))) s
     ∙ ap (λ x. codes "steps " ++ (steps ++ (codes " choices " ++ (choices ++ (x ++ (fails ++ (end ++ []))))))) t
     ∙ ap (λ x. codes "steps " ++ (steps ++ (codes " choices " ++ (choices ++ (codes " fails " ++ (fails ++ (x ++ []))))))) e
-
--- bytes that are out, and then all of more
-pub ok_then : {T E : Type 0} (r : Result T E) (a b c : Option (List ℕ)) (bytes more : List ℕ) → Appends a b bytes
-    → OnOk r (Appends b c more)
-    → OnOk r (Appends a c (bytes ++ more))
-ok_then (Ok v) a b c bytes more h k = appends_trans a b c bytes more h k
-ok_then (Err e) a b c bytes more h k = tt
-
--- bytes that are out, and then a prefix of more
-pub front_then : {T E : Type 0} (r : Result T E) (a b c : Option (List ℕ)) (bytes more : List ℕ) → Appends a b bytes
-    → OnErr r (AppendsFront b c more)
-    → OnErr r (AppendsFront a c (bytes ++ more))
-front_then (Ok v) a b c bytes more h k = tt
-front_then (Err e) a b c bytes more h x =
-    (bytes ++ x.0, x.1, ap (λ z. bytes ++ z) x.2 ∙ sym (append_assoc bytes x.0 x.1), appends_trans a b c bytes x.0 h x.3)
-
--- a prefix of bytes is one of these and more
-pub front_more : (a b : Option (List ℕ)) (bytes more : List ℕ) → AppendsFront a b bytes → AppendsFront a b (bytes ++ more)
-front_more a b bytes more x = (x.0, x.1 ++ more, ap (λ z. z ++ more) x.2 ∙ append_assoc x.0 x.1 more, x.3)

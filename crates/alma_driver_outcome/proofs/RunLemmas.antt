@@ -58,34 +58,34 @@ goes_fresh code input new steps stats run.Succeeded a b h = (
   code_due code input steps (Prints stats),
   end_is code input new.state steps stats run.Succeeded h.answered h.state,
   refl,
-  (h.out, h.cause.ok),
+  record { bytes_are = h.out; quiet = h.cause.ok },
 )
 goes_fresh code input new steps stats run.Failed a b h = (
   code_due code input steps (Prints stats),
   end_is code input new.state steps stats run.Failed h.answered h.state,
   refl,
-  (h.out, h.cause.ok),
+  record { bytes_are = h.out; quiet = h.cause.ok },
 )
 goes_fresh code input new steps stats (run.Fault fault) a b h = (
   code_due code input steps (Prints stats),
   end_is code input new.state steps stats (run.Fault fault) h.answered h.state,
   refl,
-  (h.out, h.cause.ok),
+  record { bytes_are = h.out; quiet = h.cause.ok },
 )
 goes_fresh code input new steps stats run.StepsOut a b h = (
   code_due code input steps (Prints stats),
   end_is code input new.state steps stats run.StepsOut h.answered h.state,
   refl,
-  (h.out, h.cause.ok),
+  record { bytes_are = h.out; quiet = h.cause.ok },
 )
 goes_fresh code input new steps stats run.WriteFault a b h =
     let le : made (fresh code input) new ≤ steps = omega (arith, h.few) in (
       code_due code input steps (Prints stats),
       refl,
-      (
-        front_of_more a.written b.written code input (made (fresh code input) new) steps (start code) le h.write_fault,
-        (h.cause.later, h.cause.err),
-      ),
+      record {
+        front = front_of_more a.written b.written code input (made (fresh code input) new) steps (start code) le h.write_fault;
+        risen = (h.cause.later, h.cause.err);
+      },
     )
 goes_fresh code input new steps stats run.Memory a b h =
     let le : made (fresh code input) new ≤ steps = omega (arith, h.few) in (

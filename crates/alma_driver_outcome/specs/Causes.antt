@@ -3,10 +3,10 @@ use Rattle.std.specs.Prelude.{◌≡◌, ◌⊎◌, List, ℕ, [], Some}
 use Rattle.std.specs.Io.KnownBytes.{Appends}
 use Rattle.alma_io.specs.Causes.{Rose}
 use Rattle.alma_driver_words.specs.Words.{file_of}
-use Rattle.alma_io.specs.Outside.{FilesStay, Outside, StoredFile, OthersStay, Become, WriteFailed, WritesGrew, ReadsGrew}
+use Rattle.alma_io.specs.Outside.{FilesStay, Outside, StoredFile, OthersStay, Become, WriteFailed, WritesGrew, ReadsGrew, Gains}
 use Rattle.alma_driver_outcome.specs.Ends.{status_of, text_of}
 use Rattle.alma_driver_outcome.specs.Outcome.{Due, Outcome, AskToRead, Lacks}
-use Rattle.alma_driver_outcome.specs.Course.{Gains, GainsPrefix, Takes, ReadsWhole, MayRead}
+use Rattle.alma_driver_outcome.specs.Course.{GainsPrefix, Takes, ReadsWhole, MayRead}
 
 -- the fetch of a file that the words ask to read failed in the call
 abbrev pub FetchFailed : (words : List (List ℕ)) → Outside → Outside → Type 0

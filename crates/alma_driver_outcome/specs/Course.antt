@@ -6,21 +6,13 @@ use Rattle.alma_io.specs.Fronts.{AppendsFront}
 use Rattle.alma_io.specs.Whole.{LosesAtMost}
 use Rattle.alma_driver_words.specs.Words.{file_of}
 use Rattle.alma_io.specs.Sides.{SinkSide, SourceSide, FilesSide}
-use Rattle.alma_io.specs.Outside.{Outside, HasRisen, FilesStay, StoredFile, OthersStay, HasStored}
+use Rattle.alma_io.specs.Outside.{Outside, HasRisen, FilesStay, StoredFile, OthersStay, HasStored, Gains, FailsWithin}
 use Rattle.alma_driver_outcome.specs.Ends.{status_of, text_of}
 use Rattle.alma_driver_outcome.specs.Outcome.{Due, Outcome, AskToRead}
 use Rattle.alma_driver_outcome.specs.declared.end.End.{End}
 use Rattle.alma_driver_outcome.specs.declared.end.End.TheVariants.{ReadFault, WriteFault, Memory, TooLong}
 
 -- ---- the outputs
-
--- the sink gained these bytes, and did not fail
-abbrev pub Gains : SinkSide → SinkSide → List ℕ → Type 0
-Gains old new bytes = Appends old.written new.written bytes × (new.faults ≡ old.faults)
-
--- the sink gained a prefix of these bytes, and failed
-abbrev pub FailsWithin : SinkSide → SinkSide → List ℕ → Type 0
-FailsWithin old new bytes = AppendsFront old.written new.written bytes × HasRisen old.faults new.faults
 
 -- the sink gained a prefix of the bytes of an outcome; none is known where memory ran out before there was one
 abbrev pub GainsPrefix : (Due → Type 0) → SinkSide → SinkSide → Type 0

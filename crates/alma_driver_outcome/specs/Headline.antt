@@ -9,8 +9,7 @@ use Rattle.alma_lower_implements.specs.Implements.{Covers}
 use Rattle.alma_lower_sound.specs.Reads.{program_reads}
 use Rattle.alma_driver_words.specs.Words.{Asks, Run, file_of}
 use Rattle.alma_io.specs.Sides.{SourceSide}
-use Rattle.alma_io.specs.Outside.{Outside}
-use Rattle.alma_driver_outcome.specs.Course.{Gains}
+use Rattle.alma_io.specs.Outside.{Outside, Gains}
 use Rattle.alma_driver_outcome.specs.Ends.{counts_text, fault_text, text_of}
 use Rattle.alma_driver_outcome.specs.Outcome.{AreCounts}
 use Rattle.alma_run_laws.specs.Shown.{size_of, MayRunOut}

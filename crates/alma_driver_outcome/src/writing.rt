@@ -1,8 +1,6 @@
 // What a call says on err at its end.
-ghost use Rattle.std.specs.Prelude.{◌++◌, codes, OnOk, OnErr, Some};
-ghost use Rattle.std.specs.Io.KnownBytes.{Appends};
-ghost use Rattle.alma_io.specs.Causes.{HasCause};
-ghost use Rattle.alma_io.specs.Fronts.{AppendsFront};
+ghost use Rattle.std.specs.Prelude.{◌++◌, codes, Some};
+ghost use Rattle.alma_io.specs.Outside.{Writes};
 ghost use Rattle.alma_driver_outcome.specs.Ends.{counts_line, counts_text, end_text, fault_text, object_text, rule_line, rule_text, text_of};
 ghost use Rattle.alma_driver_outcome.specs.Course.{Reports};
 ghost use Rattle.alma_source.specs.Texts.{refusal_line, refusal_text};
@@ -10,7 +8,7 @@ ghost use Rattle.alma_source.specs.Texts.{refusal_line, refusal_text};
 use crate::end::{Counts, End};
 use alma_base::{Place, RunFault, Status};
 use alma_code::VerifyFault;
-use alma_io::{Sink, WriteFault, write_all, write_parts};
+use alma_io::{Failed, Sink, write_all, write_parts};
 use alma_object::ObjectFault;
 use alma_source::SourceFault;
 use itoa::Buffer;
@@ -166,7 +164,7 @@ fn write_text<E: Sink>(err: &mut E, file: &str, end: End) -> Result<(), Failed>
         End::TooMuchCode(size) => {
             write_line(err, b"alma: too much code ", digits.format(size).as_bytes())
         }
-        _ => write_all(err, end.fixed_text()),
+        _ => Ok(write_all(err, end.fixed_text())?),
     }
 }
 
@@ -174,10 +172,8 @@ fn write_text<E: Sink>(err: &mut E, file: &str, end: End) -> Result<(), Failed>
 fn write_end<E: Sink>(err: &mut E, file: &str, end: End) -> Result<(), Failed>
     ensures { Writes (E.side err.old) (E.side err.new) (text_of file.now end) result }
 {
-    match write_counts(err, end.counts()) {
-        Ok(()) => write_text(err, file, end),
-        Err(fault) => Err(fault),
-    }
+    write_counts(err, end.counts())?;
+    write_text(err, file, end)
 }
 
 /// Writes the text of an end to err, where the words name this file, and gives the status: that of a write fault where err

@@ -41,7 +41,7 @@ inner_of P i j m n printed end own (inr h) = by (way_of (Moves P i j) (sink_side
     by : Way (Moves P i j) (sink_side (Some []) m) (sink_side (Some printed) n) end → Inner P printed end
     by (broken q due o w) = absurd (own.not_write q)
     by (starved q g k) = absurd (own.not_memory q)
-    by (ended x y due q o g) = record { due = due; outcome = o.0; out = sym g.0; end_is = q }
+    by (ended x y due q o g) = record { due = due; outcome = o.0; out = sym g.bytes_are; end_is = q }
 
 -- what running a source on an empty input comes to
 abbrev pub IsAside : (source : List ℕ) → Due → Type 0

@@ -138,34 +138,34 @@ goes_traced code input new watches steps run.Succeeded a b named h = (
   due_traced code input watches steps,
   end_is code input new.state steps false run.Succeeded h.answered h.state,
   refl,
-  (out_traced code input watches steps a.written b.written named h.out, h.cause.ok),
+  record { bytes_are = out_traced code input watches steps a.written b.written named h.out; quiet = h.cause.ok },
 )
 goes_traced code input new watches steps run.Failed a b named h = (
   due_traced code input watches steps,
   end_is code input new.state steps false run.Failed h.answered h.state,
   refl,
-  (out_traced code input watches steps a.written b.written named h.out, h.cause.ok),
+  record { bytes_are = out_traced code input watches steps a.written b.written named h.out; quiet = h.cause.ok },
 )
 goes_traced code input new watches steps (run.Fault fault) a b named h = (
   due_traced code input watches steps,
   end_is code input new.state steps false (run.Fault fault) h.answered h.state,
   refl,
-  (out_traced code input watches steps a.written b.written named h.out, h.cause.ok),
+  record { bytes_are = out_traced code input watches steps a.written b.written named h.out; quiet = h.cause.ok },
 )
 goes_traced code input new watches steps run.StepsOut a b named h = (
   due_traced code input watches steps,
   end_is code input new.state steps false run.StepsOut h.answered h.state,
   refl,
-  (out_traced code input watches steps a.written b.written named h.out, h.cause.ok),
+  record { bytes_are = out_traced code input watches steps a.written b.written named h.out; quiet = h.cause.ok },
 )
 goes_traced code input new watches steps run.WriteFault a b named h =
     let le : made (fresh code input) new ≤ steps = omega (arith, h.few) in (
       due_traced code input watches steps,
       refl,
-      (
-        front_traced code input watches (made (fresh code input) new) steps a.written b.written named le h.front,
-        (h.cause.later, h.cause.err),
-      ),
+      record {
+        front = front_traced code input watches (made (fresh code input) new) steps a.written b.written named le h.front;
+        risen = (h.cause.later, h.cause.err);
+      },
     )
 goes_traced code input new watches steps run.Memory a b named h =
     let le : made (fresh code input) new ≤ steps = omega (arith, h.few) in (

@@ -1,9 +1,7 @@
 // The command `sample`.
-ghost use Rattle.std.specs.Prelude.{◌≡◌, ◌≤◌, None, length, IfOk, OnOk, OnErr};
-ghost use Rattle.std.specs.Io.KnownBytes.{Appends};
+ghost use Rattle.std.specs.Prelude.{◌≡◌, ◌≤◌, None, length, IfOk};
 ghost use Rattle.alma_base.specs.Limits.{source_limit};
-ghost use Rattle.alma_io.specs.Causes.{HasCause};
-ghost use Rattle.alma_io.specs.Fronts.{AppendsFront};
+ghost use Rattle.alma_io.specs.Outside.{Writes};
 ghost use Rattle.alma_driver_words.specs.Sample.{sample_text};
 ghost use Rattle.alma_driver_words.specs.Words.{greatest_lines};
 ghost use Rattle.alma_driver_outcome.specs.declared.end.End.TheVariants.{Succeeded};
@@ -15,7 +13,7 @@ use crate::source::run_source;
 use alma_base::NoMemory;
 use alma_driver_outcome::{End, Showing};
 use alma_driver_words::{DEFAULT_STEPS, sample_source};
-use alma_io::{MemSink, MemSource, Sink, WriteFault, write_parts};
+use alma_io::{Failed, MemSink, MemSource, Sink, write_parts};
 use itoa::Buffer;
 use std::alloc::Global;
 

@@ -37,7 +37,8 @@ pub risen_after : (a b c : ℕ) → b ≡ a → b ≤ c → Rose b c → HasRise
 risen_after a b c e h x = subst (λ n. HasRisen n c) e (h, x)
 
 -- bytes that are out, and then a failure within the next, are a failure within the whole
-pub fails_after : (front bytes rest whole : List ℕ) (a b c : SinkSide) → whole ≡ front ++ (bytes ++ rest) → Appends a.written b.written front
+pub fails_after : (front bytes rest whole : List ℕ) (a b c : SinkSide) → whole ≡ front ++ (bytes ++ rest)
+    → Appends a.written b.written front
     → b.faults ≡ a.faults → FailsWithin b c bytes → FailsWithin a c whole
 fails_after front bytes rest whole a b c e h q x = record {
   front = front_after front bytes rest whole a.written b.written c.written e h x.front;

@@ -12,6 +12,7 @@ ghost use Rattle.alma_machine.specs.View.{runs_after};
 ghost use Rattle.alma_machine.specs.Stands.{Stands};
 ghost use Rattle.alma_io.specs.Causes.{HasCause};
 ghost use Rattle.alma_io.specs.Fronts.{AppendsFront};
+ghost use Rattle.alma_io.specs.Outside.{Writes};
 ghost use Rattle.alma_machine.specs.Runs.{ShowsLast, last_print, end_of, run_end_of, is_steps_out, all_written, made, OnWhole, OnStepsOut, OnWriteFault, OnMemory};
 ghost use Rattle.std.specs.Io.KnownBytes.{Appends};
 

@@ -1,15 +1,13 @@
 // What is shown of the programs of a pool.
-ghost use Rattle.std.specs.Prelude.{◌≡◌, ◌<◌, ◌+◌, ◌++◌, length, OnOk, OnErr, IsTrue};
-ghost use Rattle.std.specs.Io.KnownBytes.{Appends};
-ghost use Rattle.alma_io.specs.Causes.{HasCause};
-ghost use Rattle.alma_io.specs.Fronts.{AppendsFront};
+ghost use Rattle.std.specs.Prelude.{◌≡◌, ◌<◌, ◌+◌, ◌++◌, length, IsTrue};
+ghost use Rattle.alma_io.specs.Outside.{Writes};
 ghost use Rattle.alma_pool.specs.Due.{program_lines, program_text};
 ghost use Rattle.alma_pool.specs.Inner.{end_word as end_word_of, fault_word as fault_word_of, shown_text};
 ghost use Rattle.alma_pool.specs.Pool.{program_at, seen_of};
 
 use crate::pool::Pool;
 use alma_code::End;
-use alma_io::{Sink, WriteFault, write_parts};
+use alma_io::{Failed, Sink, write_parts};
 use itoa::Buffer;
 
 // The words for an end, but for the name of a fault.

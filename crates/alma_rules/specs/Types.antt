@@ -252,7 +252,8 @@ unfoldable mutual
 
   pub read_plains : Scene → tree.PlainTail → Reading (List ℕ)
   read_plains s tree.no_plain = gives s []
-  read_plains s (tree.more_plain p rest) = reading_with cons_index (reading_then (index_type_at p (read_plain s p)) (λ i. read_plains i rest))
+  read_plains s (tree.more_plain p rest) =
+      reading_with cons_index (reading_then (index_type_at p (read_plain s p)) (λ i. read_plains i rest))
 
   pub read_plain : Scene → tree.PlainType → Reading ShapeOrLimit
   read_plain s (tree.type_name n name) = reading_with formed (read_type_name s name)

@@ -6,16 +6,9 @@ use Rattle.alma_driver_outcome.specs.declared.end.End.TheVariants.{Succeeded}
 use Rattle.alma_driver_serve.proofs.sample.tell.Goals as goal
 
 pub returns-in-Ok : goal.returns-in-Ok
-returns-in-Ok g c = (
-  due_of (Succeeded None) (sample_line c.args.lines c.args.bytes c.args.told.printed c.args.told.status),
-  refl,
-  refl,
-  (c.in-Ok.ensures.ok, c.in-Ok.ensures.cause.ok),
-)
+returns-in-Ok g c =
+    (due_of (Succeeded None) (sample_line c.args.lines c.args.bytes c.args.told.printed c.args.told.status), refl, refl, c.in-Ok.ensures)
 
 pub returns-in-Err : goal.returns-in-Err
-returns-in-Err g c = (
-  due_of (Succeeded None) (sample_line c.args.lines c.args.bytes c.args.told.printed c.args.told.status),
-  refl,
-  (c.in-Err.ensures.front, (c.in-Err.ensures.cause.later, c.in-Err.ensures.cause.err)),
-)
+returns-in-Err g c =
+    (due_of (Succeeded None) (sample_line c.args.lines c.args.bytes c.args.told.printed c.args.told.status), refl, c.in-Err.ensures)

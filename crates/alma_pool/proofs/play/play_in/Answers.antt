@@ -1,6 +1,5 @@
 use Rattle.std.proofs.Common.{◌≡◌, ◌∙◌, refl, sym, subst}
-use Rattle.std.specs.Io.KnownBytes.{Appends}
-use Rattle.alma_io.specs.Fronts.{AppendsFront}
+use Rattle.alma_io.specs.Outside.{Gains, FailsWithin}
 use Rattle.alma_plan.specs.Course.{cut_short, hungry, whole}
 use Rattle.alma_plan.specs.Plan.{prints}
 use Rattle.alma_plan.proofs.Courses.{gains_none}
@@ -24,20 +23,14 @@ pub returns-in-Ok : goal.returns-in-Ok
 returns-in-Ok g c =
     let made = ok_of c.play_all.result (c.play_all.new.pool ≡ after_turns c.args.pool.now (turns_in c.args.turns.now))
     (sym c.is_err.ensures.value ∙ c.if-is_err.false) c.play_all.ensures in
-    whole (prints (shown_text 0 (after_turns c.args.pool.now (turns_in c.args.turns.now)).programs)) refl refl refl (record {
-      bytes_are = subst (λ (p : PoolView). Appends (g.O.Sink.side c.args.out.now).written (g.O.Sink.side c.show_all.new.out).written
-          (shown_text 0 p.programs)) made
-          c.in-Ok.ensures.ok;
-      quiet = c.in-Ok.ensures.cause.ok;
-    })
+    whole (prints (shown_text 0 (after_turns c.args.pool.now (turns_in c.args.turns.now)).programs)) refl refl refl
+    (subst (λ (p : PoolView). Gains (g.O.Sink.side c.args.out.now) (g.O.Sink.side c.show_all.new.out) (shown_text 0 p.programs)) made
+    c.in-Ok.ensures)
 
 pub returns-in-Err : goal.returns-in-Err
 returns-in-Err g c =
     let made = ok_of c.play_all.result (c.play_all.new.pool ≡ after_turns c.args.pool.now (turns_in c.args.turns.now))
     (sym c.is_err.ensures.value ∙ c.if-is_err.false) c.play_all.ensures in
-    cut_short (prints (shown_text 0 (after_turns c.args.pool.now (turns_in c.args.turns.now)).programs)) refl refl (record {
-      front = subst (λ (p : PoolView). AppendsFront (g.O.Sink.side c.args.out.now).written (g.O.Sink.side c.show_all.new.out).written
-          (shown_text 0 p.programs)) made
-          c.in-Err.ensures.front;
-      risen = (c.in-Err.ensures.cause.later, c.in-Err.ensures.cause.err);
-    })
+    cut_short (prints (shown_text 0 (after_turns c.args.pool.now (turns_in c.args.turns.now)).programs)) refl refl
+    (subst (λ (p : PoolView). FailsWithin (g.O.Sink.side c.args.out.now) (g.O.Sink.side c.show_all.new.out) (shown_text 0 p.programs)) made
+    c.in-Err.ensures)

@@ -2,16 +2,16 @@ use Rattle.std.proofs.Common.{◌∙◌, ◌<◌, List, ℕ, length, subst, sym,
 use Rattle.std.proofs.lemmas.Result.{err_from_is_err_and}
 use Rattle.std.specs.Io.KnownBytes.{Appends}
 use Rattle.alma_io.proofs.Known.{appends_trans}
-use Rattle.alma_io.proofs.PartLemmas.{front_after}
+use Rattle.alma_io.proofs.PartLemmas.{fails_after}
 use Rattle.alma_pool.proofs.Showing.{shown_here, shown_more}
 use Rattle.alma_pool.proofs.show.show_all.Goals as goal
 
-pub returns-in_err-show_one-clause-front : goal.returns-in_err-show_one-clause-front
-returns-in_err-show_one-clause-front g c =
+pub returns-in_err-show_one : goal.returns-in_err-show_one
+returns-in_err-show_one g c =
     let within : c.loop-k.k < length c.args.pool.now.programs = omega (arith, c.loop-k-test.true, c.count-k-end.ensures) in
     let p = err_from_is_err_and c.from_residual.result c.from_residual.ensures.1 in
-    rw p.1 (front_after _ _ _ _ _ _ _ (shown_here c.args.pool.now.programs c.loop-k.k within) c.loop-k.invariant.out
-    c.in_err-show_one.ensures.front)
+    rw p.1 (fails_after _ _ _ _ _ _ _ (shown_here c.args.pool.now.programs c.loop-k.k within) c.loop-k.invariant.out
+    c.loop-k.invariant.quiet c.in_err-show_one.ensures)
 
 pub loop-k-preserved : goal.loop-k-preserved
 loop-k-preserved g c =
@@ -19,6 +19,6 @@ loop-k-preserved g c =
     record {
       out = subst (λ (bytes : List ℕ). Appends (g.O.Sink.side c.args.out.now).written (g.O.Sink.side c.show_one.new.out).written bytes)
           (sym (shown_more c.args.pool.now.programs c.loop-k.k within))
-          (appends_trans _ _ _ _ _ c.loop-k.invariant.out c.in_ok-show_one.ensures.ok);
-      quiet = c.in_ok-show_one.ensures.cause.ok ∙ c.loop-k.invariant.quiet;
+          (appends_trans _ _ _ _ _ c.loop-k.invariant.out c.in_ok-show_one.ensures.bytes_are);
+      quiet = c.in_ok-show_one.ensures.quiet ∙ c.loop-k.invariant.quiet;
     }

@@ -1,13 +1,13 @@
 use Rattle.std.proofs.Common.{rules, [], ◌≡◌, ◌+◌, ◌++◌, List, ℕ, ap, sym, ◌∙◌, subst, arith, true, false}
 use Rattle.std.specs.Prelude.{is_err}
 use Rattle.std.specs.Io.KnownBytes.{Appends}
-use Rattle.alma_io.specs.Fronts.{AppendsFront}
+use Rattle.alma_io.proofs.PartLemmas.{gains_of, fails_of, risen_after}
 use Rattle.alma_code.specs.Machine.{State, after, prints}
 use Rattle.alma_machine.specs.Runs.{run_end_of, made}
 use Rattle.alma_machine.specs.View.{run_state, MachineView}
 use Rattle.alma_machine.proofs.Dashing.{progress_dash, prints_dash}
 use Rattle.alma_machine.proofs.Budget.{progress_more, progress_stopped, shows, shows_last, end_is_whole, prints_then, made_is, on_whole}
-use Rattle.alma_machine.proofs.Budget.{finished, goes_unless, out_more, out_front, on_ok, on_err}
+use Rattle.alma_machine.proofs.Budget.{finished, goes_unless, out_more, out_front, on_err}
 use Rattle.alma_verify.specs.Verified.{code_of_verified}
 use Rattle.alma_machine.proofs.machine.Machine.run.Goals as goal
 
@@ -113,14 +113,13 @@ returns-then-is_err-clause-write_fault g c =
     let q = progress_stopped old c.step.new.self stopped (m + 1) (ap (λ x. x.state) c.self.view_is) (ap (λ x. x.code) c.self.view_is)
     (ap (λ x. x.input) c.self.view_is) (ap (λ x. x.printed) c.self.view_is) p in
     let failed : is_err c.write_printed.result ≡ true = search rules in
-    let front = on_err c.write_printed.result
-    (AppendsFront (g.K.Sink.side c.loop-made.out).written (g.K.Sink.side c.write_printed.new.out).written c.printed.result.now) failed
-    c.write_printed.ensures.front in
+    let fails = fails_of c.write_printed.result (g.K.Sink.side c.loop-made.out) (g.K.Sink.side c.write_printed.new.out) c.printed.result.now
+    failed c.write_printed.ensures in
     out_front (g.K.Sink.side c.args.out.now).written (g.K.Sink.side c.loop-made.out).written (g.K.Sink.side c.write_printed.new.out).written
     (prints old.code old.input m old.state) c.printed.result.now
     (prints old.code old.input (made old stopped) old.state)
     (subst (λ (bytes : List ℕ). Appends (g.K.Sink.side c.args.out.now).written (g.K.Sink.side c.loop-made.out).written bytes)
-    (sym (prints_dash old c.loop-made.self c.loop-made.made d.result before d.ensures.silent)) c.loop-made.invariant.out) front
+    (sym (prints_dash old c.loop-made.self c.loop-made.made d.result before d.ensures.silent)) c.loop-made.invariant.out) fails.front
     (ap (λ k. prints old.code old.input k old.state) (made_is old stopped (m + 1) q)
     ∙ prints_then old d.new.self c.step.new.self m c.in-Ok.step now c.in-Ok.ensures.step
     ∙ ap (λ bytes. prints old.code old.input m old.state ++ bytes) (sym c.printed.ensures))
@@ -184,10 +183,8 @@ loop-made-preserved-then-made-budget g c =
     let p = progress_more old d.new.self c.step.new.self m c.in-Ok.step now c.in-Ok.ensures.step c.in-Ok.ensures.counted
     c.in-Ok.ensures.same in
     let written : is_err c.write_printed.result ≡ false = search rules in
-    let out = on_ok c.write_printed.result (Appends (g.K.Sink.side c.loop-made.out).written (g.K.Sink.side c.write_printed.new.out).written
-    c.printed.result.now) written c.write_printed.ensures.ok in
-    let quiet = on_ok c.write_printed.result ((g.K.Sink.side c.write_printed.new.out).faults ≡ (g.K.Sink.side c.loop-made.out).faults)
-    written c.write_printed.ensures.cause.ok in
+    let gains = gains_of c.write_printed.result (g.K.Sink.side c.loop-made.out) (g.K.Sink.side c.write_printed.new.out) c.printed.result.now
+    written c.write_printed.ensures in
     record {
       within = omega (arith, c.if-made-budget.true);
       progress = p;
@@ -195,10 +192,11 @@ loop-made-preserved-then-made-budget g c =
           (g.K.Sink.side c.write_printed.new.out).written (prints old.code old.input m old.state) c.printed.result.now
           (prints old.code old.input (m + 1) old.state)
           (subst (λ (bytes : List ℕ). Appends (g.K.Sink.side c.args.out.now).written (g.K.Sink.side c.loop-made.out).written bytes)
-          (sym (prints_dash old c.loop-made.self c.loop-made.made d.result before d.ensures.silent)) c.loop-made.invariant.out) out
+          (sym (prints_dash old c.loop-made.self c.loop-made.made d.result before d.ensures.silent)) c.loop-made.invariant.out)
+              gains.bytes_are
           (prints_then old d.new.self c.step.new.self m c.in-Ok.step now c.in-Ok.ensures.step
           ∙ ap (λ bytes. prints old.code old.input m old.state ++ bytes) (sym c.printed.ensures));
-      quiet = quiet ∙ c.loop-made.invariant.quiet;
+      quiet = gains.quiet ∙ c.loop-made.invariant.quiet;
       running = c.in-Ok.ensures.running ∙ goes_unless c.in-Ok.step c.in_default-step.not-Done;
     }
 
