@@ -1,11 +1,11 @@
 // What each instruction does.
-ghost use Rattle.std.specs.Prelude.{false, ◌≡◌, ◌+◌, ◌^◌, ◌<◌, ◌≤◌, List, ℕ, [], length, IfOk, OnErr};
+ghost use Rattle.std.specs.Prelude.{false, ◌≡◌, ◌+◌, ◌^◌, ◌<◌, ◌≤◌, List, ℕ, [], length};
 ghost use Rattle.alma_base.specs.Limits.{input_limit};
 ghost use Rattle.alma_code.specs.Machine.{State, act};
 ghost use Rattle.alma_code.specs.Plain.{PlainCode};
 ghost use Rattle.alma_machine.specs.Needs.{Computes, Needs, is_first_form, is_control_form, is_place_form, is_cell_form, is_choice_form, is_call_form, is_read_form};
-ghost use Rattle.alma_machine_acts.specs.Rows.{state_of, HasNumber, KeepsOn, put_or_fault};
-ghost use Rattle.alma_machine_acts.specs.Steps.{step_result, PrintsOnly};
+ghost use Rattle.alma_machine_acts.specs.Acts.{Acts, ActsWith};
+ghost use Rattle.alma_machine_acts.specs.Rows.{state_of, HasNumber, put_or_fault};
 
 use alma_base::{NoMemory, RunFault};
 use alma_code::{ChoiceKind, End, Instr, Step};
@@ -62,16 +62,9 @@ pub fn act<M: MachineMemory, V: CodeView>(
     requires few { registers.old.choices + 1 < 2 ^ 63 }
     requires lawful { length input.now ≤ input_limit }
     requires empty { bytes.old.items ≡ [] }
-    ensures ok { IfOk result
-        (λ answer. step_result answer bytes.new.items (state_of M.picture registers.new)
-        ≡ act (V.code view.now) input.now instr (state_of M.picture registers.old)) }
-    ensures kept { IfOk result
-        (λ answer. KeepsOn answer (state_of M.picture registers.old)
-        (state_of M.picture registers.new)) }
-    ensures quiet { IfOk result (λ answer. PrintsOnly answer bytes.new.items) }
-    ensures refused { OnErr result
-        ((state_of M.picture registers.new ≡ state_of M.picture registers.old) × (bytes.new.items
-        ≡ [])) }
+    ensures acts { ActsWith (state_of M.picture registers.old) (state_of M.picture registers.new)
+        bytes.new.items result (act (V.code view.now) input.now instr
+        (state_of M.picture registers.old)) }
     ensures past { (M.picture registers.new.memory).past ≡ (M.picture registers.old.memory).past }
 {
     match instr {
@@ -116,14 +109,8 @@ fn act_control<M: MachineMemory, V: CodeView>(
     requires later { is_first_form instr ≡ false }
     requires few { registers.old.choices + 1 < 2 ^ 63 }
     requires lawful { length input.now ≤ input_limit }
-    ensures ok { IfOk result (λ answer. step_result answer [] (state_of M.picture registers.new)
-        ≡ act (V.code view.now) input.now instr (state_of M.picture registers.old)) }
-    ensures kept { IfOk result
-        (λ answer. KeepsOn answer (state_of M.picture registers.old)
-        (state_of M.picture registers.new)) }
-    ensures quiet { IfOk result (λ answer. PrintsOnly answer []) }
-    ensures refused { OnErr result
-        (state_of M.picture registers.new ≡ state_of M.picture registers.old) }
+    ensures acts { Acts (state_of M.picture registers.old) (state_of M.picture registers.new) result
+        (act (V.code view.now) input.now instr (state_of M.picture registers.old)) }
     ensures past { (M.picture registers.new.memory).past ≡ (M.picture registers.old.memory).past }
 {
     match instr {
@@ -159,14 +146,8 @@ fn act_places<M: MachineMemory, V: CodeView>(
     requires no_control { is_control_form instr ≡ false }
     requires few { registers.old.choices + 1 < 2 ^ 63 }
     requires lawful { length input.now ≤ input_limit }
-    ensures ok { IfOk result (λ answer. step_result answer [] (state_of M.picture registers.new)
-        ≡ act (V.code view.now) input.now instr (state_of M.picture registers.old)) }
-    ensures kept { IfOk result
-        (λ answer. KeepsOn answer (state_of M.picture registers.old)
-        (state_of M.picture registers.new)) }
-    ensures quiet { IfOk result (λ answer. PrintsOnly answer []) }
-    ensures refused { OnErr result
-        (state_of M.picture registers.new ≡ state_of M.picture registers.old) }
+    ensures acts { Acts (state_of M.picture registers.old) (state_of M.picture registers.new) result
+        (act (V.code view.now) input.now instr (state_of M.picture registers.old)) }
     ensures past { (M.picture registers.new.memory).past ≡ (M.picture registers.old.memory).past }
 {
     match instr {
@@ -213,14 +194,8 @@ fn act_cells<M: MachineMemory, V: CodeView>(
     requires no_place { is_place_form instr ≡ false }
     requires few { registers.old.choices + 1 < 2 ^ 63 }
     requires lawful { length input.now ≤ input_limit }
-    ensures ok { IfOk result (λ answer. step_result answer [] (state_of M.picture registers.new)
-        ≡ act (V.code view.now) input.now instr (state_of M.picture registers.old)) }
-    ensures kept { IfOk result
-        (λ answer. KeepsOn answer (state_of M.picture registers.old)
-        (state_of M.picture registers.new)) }
-    ensures quiet { IfOk result (λ answer. PrintsOnly answer []) }
-    ensures refused { OnErr result
-        (state_of M.picture registers.new ≡ state_of M.picture registers.old) }
+    ensures acts { Acts (state_of M.picture registers.old) (state_of M.picture registers.new) result
+        (act (V.code view.now) input.now instr (state_of M.picture registers.old)) }
     ensures past { (M.picture registers.new.memory).past ≡ (M.picture registers.old.memory).past }
 {
     match instr {
@@ -263,14 +238,8 @@ fn act_choices<M: MachineMemory, V: CodeView>(
     requires no_cell { is_cell_form instr ≡ false }
     requires few { registers.old.choices + 1 < 2 ^ 63 }
     requires lawful { length input.now ≤ input_limit }
-    ensures ok { IfOk result (λ answer. step_result answer [] (state_of M.picture registers.new)
-        ≡ act (V.code view.now) input.now instr (state_of M.picture registers.old)) }
-    ensures kept { IfOk result
-        (λ answer. KeepsOn answer (state_of M.picture registers.old)
-        (state_of M.picture registers.new)) }
-    ensures quiet { IfOk result (λ answer. PrintsOnly answer []) }
-    ensures refused { OnErr result
-        (state_of M.picture registers.new ≡ state_of M.picture registers.old) }
+    ensures acts { Acts (state_of M.picture registers.old) (state_of M.picture registers.new) result
+        (act (V.code view.now) input.now instr (state_of M.picture registers.old)) }
     ensures past { (M.picture registers.new.memory).past ≡ (M.picture registers.old.memory).past }
 {
     match instr {
@@ -301,14 +270,8 @@ fn act_calls<M: MachineMemory, V: CodeView>(
     requires no_choice { is_choice_form instr ≡ false }
     requires few { registers.old.choices + 1 < 2 ^ 63 }
     requires lawful { length input.now ≤ input_limit }
-    ensures ok { IfOk result (λ answer. step_result answer [] (state_of M.picture registers.new)
-        ≡ act (V.code view.now) input.now instr (state_of M.picture registers.old)) }
-    ensures kept { IfOk result
-        (λ answer. KeepsOn answer (state_of M.picture registers.old)
-        (state_of M.picture registers.new)) }
-    ensures quiet { IfOk result (λ answer. PrintsOnly answer []) }
-    ensures refused { OnErr result
-        (state_of M.picture registers.new ≡ state_of M.picture registers.old) }
+    ensures acts { Acts (state_of M.picture registers.old) (state_of M.picture registers.new) result
+        (act (V.code view.now) input.now instr (state_of M.picture registers.old)) }
     ensures past { (M.picture registers.new.memory).past ≡ (M.picture registers.old.memory).past }
 {
     match instr {
@@ -339,14 +302,8 @@ fn act_input<M: MachineMemory, V: CodeView>(
     requires no_call { is_call_form instr ≡ false }
     requires few { registers.old.choices + 1 < 2 ^ 63 }
     requires lawful { length input.now ≤ input_limit }
-    ensures ok { IfOk result (λ answer. step_result answer [] (state_of M.picture registers.new)
-        ≡ act (V.code view.now) input.now instr (state_of M.picture registers.old)) }
-    ensures kept { IfOk result
-        (λ answer. KeepsOn answer (state_of M.picture registers.old)
-        (state_of M.picture registers.new)) }
-    ensures quiet { IfOk result (λ answer. PrintsOnly answer []) }
-    ensures refused { OnErr result
-        (state_of M.picture registers.new ≡ state_of M.picture registers.old) }
+    ensures acts { Acts (state_of M.picture registers.old) (state_of M.picture registers.new) result
+        (act (V.code view.now) input.now instr (state_of M.picture registers.old)) }
     ensures past { (M.picture registers.new.memory).past ≡ (M.picture registers.old.memory).past }
 {
     match instr {
@@ -380,14 +337,8 @@ fn act_links<M: MachineMemory, V: CodeView>(
     requires no_read { is_read_form instr ≡ false }
     requires few { registers.old.choices + 1 < 2 ^ 63 }
     requires lawful { length input.now ≤ input_limit }
-    ensures ok { IfOk result (λ answer. step_result answer [] (state_of M.picture registers.new)
-        ≡ act (V.code view.now) input.now instr (state_of M.picture registers.old)) }
-    ensures kept { IfOk result
-        (λ answer. KeepsOn answer (state_of M.picture registers.old)
-        (state_of M.picture registers.new)) }
-    ensures quiet { IfOk result (λ answer. PrintsOnly answer []) }
-    ensures refused { OnErr result
-        (state_of M.picture registers.new ≡ state_of M.picture registers.old) }
+    ensures acts { Acts (state_of M.picture registers.old) (state_of M.picture registers.new) result
+        (act (V.code view.now) input.now instr (state_of M.picture registers.old)) }
     ensures past { (M.picture registers.new.memory).past ≡ (M.picture registers.old.memory).past }
 {
     match instr {

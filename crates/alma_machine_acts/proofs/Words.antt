@@ -1,7 +1,7 @@
 -- What the reading of slots gives.
 use Rattle.std.proofs.Common.{inl, inr, [], ◌≡◌, ℕ, ◌+◌, List, get_or, refl, sym, ap, ◌∙◌, subst, arith, Some}
 use Rattle.std.specs.Prelude.{ℤ, pos, negsuc, zero, suc, slice_get, Bool, true, false, ◌&&◌, ◌≤ℤ◌, ◌<ℤ◌, int_le, Option, None, Result, Ok}
-use Rattle.std.specs.Prelude.{Err, IfOk}
+use Rattle.std.specs.Prelude.{Err}
 use Rattle.std.proofs.lemmas.Bool.{eq-eqb, and_from}
 use Rattle.std.proofs.lemmas.Int.{ints}
 use Rattle.std.proofs.lemmas.Bool.Decides.{eqb_tells}
@@ -21,7 +21,7 @@ use Rattle.alma_code.specs.Fits.{IsContent}
 use Rattle.alma_code.specs.Machine.{State, StepResult, number, place, content, as_content, as_number, as_place, ends_in_fault, put_number}
 use Rattle.alma_code.specs.Machine.{to_number, quiet_step, gets_stuck, store, with_slot, with_cell}
 use Rattle.alma_code.specs.Picture.{PlainFrame, no_frame, last_frame, cell_at}
-use Rattle.alma_machine_acts.specs.Steps.{step_result}
+use Rattle.alma_machine_acts.specs.Acts.{Acts, Makes}
 use Rattle.alma_machine_acts.specs.Rows.{HasSlot, HasNumber, HasNumberIn, IsCells, HoldsCells, Gives, put_or_fault}
 
 -- what a slot holds that has a content is a content
@@ -191,18 +191,13 @@ pub ruleset puts = (put_is, number_is_slot)
 
 -- ---- answers
 
--- a step that is one thing is what that is equal to
-pub ok_is : {E : Type 0} (r : Result Step E) (bytes : List ℕ) (new : State) (x y : StepResult) → IfOk r (λ a. step_result a bytes new ≡ x)
-    → x ≡ y
-    → IfOk r (λ a. step_result a bytes new ≡ y)
-ok_is (Ok a) bytes new x y h e = h ∙ e
-ok_is (Err f) bytes new x y h e = tt
+-- what was made, by an equal word
+pub makes_is : (answer : Step) (old new : State) (x y : StepResult) → Makes old new answer x → x ≡ y → Makes old new answer y
+makes_is answer old new x y h e = subst (Makes old new answer) e h
 
--- the same where it prints nothing
-pub ok_quiet : {E : Type 0} (r : Result Step E) (bytes : List ℕ) (new : State) (x y : StepResult) → bytes ≡ []
-    → IfOk r (λ a. step_result a [] new ≡ x) → x ≡ y → IfOk r (λ a. step_result a bytes new ≡ y)
-ok_quiet (Ok a) bytes new x y none h e = ap (λ b. step_result a b new) none ∙ h ∙ e
-ok_quiet (Err f) bytes new x y none h e = tt
+-- what was acted on, by an equal word
+pub acts_is : {E : Type 0} (r : Result Step E) (old new : State) (x y : StepResult) → Acts old new r x → x ≡ y → Acts old new r y
+acts_is r old new x y h e = subst (Acts old new r) e h
 
 -- what a word gives goes into a slot, or ends the run
 pub gives_put : (now : List PlainFrame) (word : State → (ℤ → StepResult) → StepResult) (s : State) (to : ℕ) (result : Result ℤ RunFault)

@@ -1,5 +1,5 @@
 // Calls and returns.
-ghost use Rattle.std.specs.Prelude.{◌≡◌, ◌≤◌, [], length, Some, IfOk, OnErr};
+ghost use Rattle.std.specs.Prelude.{◌≡◌, ◌≤◌, length, Some, IfOk};
 ghost use Rattle.alma_code.specs.declared.step.End.TheVariants as end;
 ghost use Rattle.alma_code.specs.Carries.{IsLive};
 ghost use Rattle.alma_code.specs.Layout.{IsHead, FitsParams};
@@ -7,9 +7,9 @@ ghost use Rattle.alma_base.specs.Choice.{if_true};
 ghost use Rattle.std.specs.Prelude.{nat_eq, ◌-◌, slice_get};
 ghost use Rattle.alma_code.specs.Machine.{number, arguments, enters_routine, ends_run, answers_return, state_after_leave, result_to};
 ghost use Rattle.alma_code.specs.Picture.{last_frame};
-ghost use Rattle.alma_machine_acts.specs.Rows.{state_of, HasNumber, KeepsOn};
+ghost use Rattle.alma_machine_acts.specs.Acts.{Acts};
+ghost use Rattle.alma_machine_acts.specs.Rows.{state_of, HasNumber};
 ghost use Rattle.alma_machine_acts.specs.Calls.{HasArgument, HasArguments, GivesArgument, GivesArguments, CallsBack, back_or_fault};
-ghost use Rattle.alma_machine_acts.specs.Steps.{step_result};
 
 use crate::codes::CodeView;
 use crate::registers::Registers;
@@ -68,14 +68,9 @@ fn enter<M: MachineMemory, H: Head>(
     requires args { FitsParams (IsLive (M.picture registers.old.memory).now)
         (λ routine. IsLive (M.picture registers.old.memory).now) (H.head head.now).params
         registers.old.args.items }
-    ensures ok { IfOk result (λ answer. step_result answer [] (state_of M.picture registers.new)
-        ≡ enters_routine (state_of M.picture registers.old) routine start
-        (H.head head.now) registers.old.args.items) }
-    ensures kept { IfOk result
-        (λ answer. KeepsOn answer (state_of M.picture registers.old)
-        (state_of M.picture registers.new)) }
-    ensures refused { OnErr result
-        (state_of M.picture registers.new ≡ state_of M.picture registers.old) }
+    ensures acts { Acts (state_of M.picture registers.old) (state_of M.picture registers.new) result
+        (enters_routine (state_of M.picture registers.old) routine start (H.head head.now)
+        registers.old.args.items) }
     ensures past { (M.picture registers.new.memory).past ≡ (M.picture registers.old.memory).past }
 {
     match registers
@@ -103,15 +98,10 @@ pub fn call<M: MachineMemory, H: Head>(
     requires head { IsHead (H.head head.now) }
     requires args { HasArguments (M.picture registers.old.memory).now
         (H.head head.now).params first }
-    ensures ok { let s = state_of M.picture registers.old in IfOk result
-        (λ answer. step_result answer [] (state_of M.picture registers.new)
-        ≡ arguments (H.head head.now).params s first
+    ensures acts { let s = state_of M.picture registers.old in
+        Acts s (state_of M.picture registers.new) result
+        (arguments (H.head head.now).params s first
         (λ args. enters_routine s routine start (H.head head.now) args)) }
-    ensures kept { IfOk result
-        (λ answer. KeepsOn answer (state_of M.picture registers.old)
-        (state_of M.picture registers.new)) }
-    ensures refused { OnErr result
-        (state_of M.picture registers.new ≡ state_of M.picture registers.old) }
     ensures past { (M.picture registers.new.memory).past ≡ (M.picture registers.old.memory).past }
 {
     match arguments(&registers.memory, head, first, &mut registers.args)? {
@@ -124,15 +114,10 @@ pub fn call<M: MachineMemory, H: Head>(
 #[tactic(auto, using(crate::proofs::Given::returns))]
 pub fn leave<M: MachineMemory>(registers: &mut Registers<M>) -> Result<Step, NoMemory>
     requires { 1 ≤ length (M.picture registers.old.memory).now }
-    ensures ok { let s = state_of M.picture registers.old in IfOk result
-        (λ answer. step_result answer [] (state_of M.picture registers.new)
-        ≡ if_true (nat_eq (length s.now) 1) (λ _. ends_run end.Succeeded s)
+    ensures acts { let s = state_of M.picture registers.old in
+        Acts s (state_of M.picture registers.new) result
+        (if_true (nat_eq (length s.now) 1) (λ _. ends_run end.Succeeded s)
         (λ _. answers_return (state_after_leave s))) }
-    ensures kept { IfOk result
-        (λ answer. KeepsOn answer (state_of M.picture registers.old)
-        (state_of M.picture registers.new)) }
-    ensures refused { OnErr result
-        (state_of M.picture registers.new ≡ state_of M.picture registers.old) }
     ensures past { (M.picture registers.new.memory).past ≡ (M.picture registers.old.memory).past }
 {
     if registers.memory.frames() == 1 {
@@ -150,15 +135,10 @@ pub fn leave_with<M: MachineMemory, V: CodeView>(
 ) -> Result<Step, NoMemory>
     requires slot { HasNumber (M.picture registers.old.memory).now value }
     requires back { CallsBack (V.code view.now) (M.picture registers.old.memory).now }
-    ensures ok { let s = state_of M.picture registers.old in IfOk result
-        (λ answer. step_result answer [] (state_of M.picture registers.new)
-        ≡ number s value (λ v. result_to (slice_get (V.code view.now).instrs ((last_frame
-        s.now).back - 1)) (state_after_leave s) v)) }
-    ensures kept { IfOk result
-        (λ answer. KeepsOn answer (state_of M.picture registers.old)
-        (state_of M.picture registers.new)) }
-    ensures refused { OnErr result
-        (state_of M.picture registers.new ≡ state_of M.picture registers.old) }
+    ensures acts { let s = state_of M.picture registers.old in
+        Acts s (state_of M.picture registers.new) result
+        (number s value (λ v. result_to
+        (slice_get (V.code view.now).instrs ((last_frame s.now).back - 1)) (state_after_leave s) v)) }
     ensures past { (M.picture registers.new.memory).past ≡ (M.picture registers.old.memory).past }
 {
     let number = registers.number(value);
@@ -173,15 +153,9 @@ fn give_back<M: MachineMemory, V: CodeView>(
     number: Result<i64, RunFault>,
 ) -> Result<Step, NoMemory>
     requires { CallsBack (V.code view.now) (M.picture registers.old.memory).now }
-    ensures ok { let s = state_of M.picture registers.old in IfOk result
-        (λ answer. step_result answer [] (state_of M.picture registers.new)
-        ≡ back_or_fault (slice_get (V.code view.now).instrs ((last_frame s.now).back - 1)) s
-        number) }
-    ensures kept { IfOk result
-        (λ answer. KeepsOn answer (state_of M.picture registers.old)
-        (state_of M.picture registers.new)) }
-    ensures refused { OnErr result
-        (state_of M.picture registers.new ≡ state_of M.picture registers.old) }
+    ensures acts { let s = state_of M.picture registers.old in
+        Acts s (state_of M.picture registers.new) result
+        (back_or_fault (slice_get (V.code view.now).instrs ((last_frame s.now).back - 1)) s number) }
     ensures past { (M.picture registers.new.memory).past ≡ (M.picture registers.old.memory).past }
 {
     let number = match number {

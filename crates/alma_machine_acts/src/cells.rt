@@ -1,9 +1,9 @@
 // The cells at places: read, stored and bound.
-ghost use Rattle.std.specs.Prelude.{◌≡◌, [], IfOk, OnErr};
+ghost use Rattle.std.specs.Prelude.{◌≡◌};
 ghost use Rattle.alma_code.specs.Machine.{number, place, content, store, binds_content, with_known_content, is_known, quiet_step};
 ghost use Rattle.alma_base.specs.Numbers.{bit};
-ghost use Rattle.alma_machine_acts.specs.Rows.{state_of, HasNumber, HasNumberIn, HasOneCell, Gives, KeepsOn};
-ghost use Rattle.alma_machine_acts.specs.Steps.{step_result};
+ghost use Rattle.alma_machine_acts.specs.Acts.{Acts};
+ghost use Rattle.alma_machine_acts.specs.Rows.{state_of, HasNumber, HasNumberIn, HasOneCell, Gives};
 
 use crate::registers::{Mode, Registers};
 use alma_base::{NoMemory, Range, RunFault};
@@ -16,11 +16,8 @@ impl<M: MachineMemory> Registers<M> {
     #[tactic(auto, using(crate::proofs::Words::store_is))]
     pub fn set(&mut self, frame: u32, slot: u32, number: i64) -> Result<Step, NoMemory>
         requires { HasNumberIn (M.picture self.old.memory).now frame slot }
-        ensures ok { IfOk result (λ answer. step_result answer [] (state_of M.picture self.new)
-            ≡ store (state_of M.picture self.old) frame slot number quiet_step) }
-        ensures kept { IfOk result
-            (λ answer. KeepsOn answer (state_of M.picture self.old) (state_of M.picture self.new)) }
-        ensures refused { OnErr result (state_of M.picture self.new ≡ state_of M.picture self.old) }
+        ensures acts { Acts (state_of M.picture self.old) (state_of M.picture self.new) result
+            (store (state_of M.picture self.old) frame slot number quiet_step) }
         ensures past { (M.picture self.new.memory).past ≡ (M.picture self.old.memory).past }
     {
         self.memory.write(frame, slot, Cell::Int(number))?;
@@ -32,12 +29,9 @@ impl<M: MachineMemory> Registers<M> {
     pub fn store(&mut self, to: u32, from: u32) -> Result<Step, NoMemory>
         requires to { HasOneCell (M.picture self.old.memory).now to }
         requires from { HasNumber (M.picture self.old.memory).now from }
-        ensures ok { let s = state_of M.picture self.old in
-            IfOk result (λ answer. step_result answer [] (state_of M.picture self.new) ≡ place s to
-            (λ p. number s from (λ v. store s p.frame p.slot v quiet_step))) }
-        ensures kept { IfOk result
-            (λ answer. KeepsOn answer (state_of M.picture self.old) (state_of M.picture self.new)) }
-        ensures refused { OnErr result (state_of M.picture self.new ≡ state_of M.picture self.old) }
+        ensures acts { let s = state_of M.picture self.old in
+            Acts s (state_of M.picture self.new) result
+            (place s to (λ p. number s from (λ v. store s p.frame p.slot v quiet_step))) }
         ensures past { (M.picture self.new.memory).past ≡ (M.picture self.old.memory).past }
     {
         let place = match self.place(to) {
@@ -76,12 +70,9 @@ impl<M: MachineMemory> Registers<M> {
         number: i64,
     ) -> Result<Step, NoMemory>
         requires { HasNumberIn (M.picture self.old.memory).now place.frame place.slot }
-        ensures ok { let s = state_of M.picture self.old in
-            IfOk result (λ answer. step_result answer [] (state_of M.picture self.new)
-            ≡ content s place.frame place.slot (λ u. binds_content s place range.now number u)) }
-        ensures kept { IfOk result
-            (λ answer. KeepsOn answer (state_of M.picture self.old) (state_of M.picture self.new)) }
-        ensures refused { OnErr result (state_of M.picture self.new ≡ state_of M.picture self.old) }
+        ensures acts { let s = state_of M.picture self.old in
+            Acts s (state_of M.picture self.new) result
+            (content s place.frame place.slot (λ u. binds_content s place range.now number u)) }
         ensures past { (M.picture self.new.memory).past ≡ (M.picture self.old.memory).past }
     {
         match self.content(place.frame, place.slot) {
@@ -105,13 +96,10 @@ impl<M: MachineMemory> Registers<M> {
     pub fn bind(&mut self, to: u32, value: u32, range: &Range) -> Result<Step, NoMemory>
         requires to { HasOneCell (M.picture self.old.memory).now to }
         requires value { HasNumber (M.picture self.old.memory).now value }
-        ensures ok { let s = state_of M.picture self.old in
-            IfOk result (λ answer. step_result answer [] (state_of M.picture self.new)
-            ≡ place s to (λ p. number s value (λ v. content s p.frame p.slot
-            (λ u. binds_content s p range.now v u)))) }
-        ensures kept { IfOk result
-            (λ answer. KeepsOn answer (state_of M.picture self.old) (state_of M.picture self.new)) }
-        ensures refused { OnErr result (state_of M.picture self.new ≡ state_of M.picture self.old) }
+        ensures acts { let s = state_of M.picture self.old in
+            Acts s (state_of M.picture self.new) result
+            (place s to (λ p. number s value
+            (λ v. content s p.frame p.slot (λ u. binds_content s p range.now v u)))) }
         ensures past { (M.picture self.new.memory).past ≡ (M.picture self.old.memory).past }
     {
         let place = match self.place(to) {

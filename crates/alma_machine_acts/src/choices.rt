@@ -1,10 +1,10 @@
 // Choice entries: pushed, cut, kept and popped.
-ghost use Rattle.std.specs.Prelude.{◌≡◌, ◌≢◌, ◌+◌, ◌<◌, ◌≤◌, ◌^◌, [], length, IsOk, IfOk, OnOk, OnErr};
+ghost use Rattle.std.specs.Prelude.{◌≡◌, ◌≢◌, ◌+◌, ◌<◌, ◌≤◌, ◌^◌, length, IsOk, IfOk, OnOk, OnErr};
 ghost use Rattle.alma_code.specs.declared.cell.Cell.TheVariants as cell;
 ghost use Rattle.alma_code.specs.declared.cell.ChoiceKind.TheVariants as choice;
 ghost use Rattle.alma_code.specs.Machine.{answer_of_push, state_after_push, put_mark, mark, cut_to, pop, to_mark, kind_of, with_slot, is_forall_at, overlay, keep, finish};
-ghost use Rattle.alma_machine_acts.specs.Rows.{state_of, HasMark, KeepsOn, GivesMark};
-ghost use Rattle.alma_machine_acts.specs.Steps.{step_result};
+ghost use Rattle.alma_machine_acts.specs.Acts.{Acts, Makes};
+ghost use Rattle.alma_machine_acts.specs.Rows.{state_of, HasMark, GivesMark};
 
 use crate::registers::{Mode, Registers};
 use alma_base::{NoMemory, RunFault};
@@ -30,14 +30,8 @@ pub fn mark<M: MachineMemory>(registers: &Registers<M>, slot: u32) -> Result<usi
 #[tactic(auto, using(crate::proofs::Entries::put_marks))]
 pub fn set_mark<M: MachineMemory>(registers: &mut Registers<M>, to: u32) -> Result<Step, NoMemory>
     requires { HasMark (M.picture registers.old.memory).now to }
-    ensures ok { let s = state_of M.picture registers.old in IfOk result
-        (λ answer. step_result answer [] (state_of M.picture registers.new)
-        ≡ put_mark s to (length s.held)) }
-    ensures kept { IfOk result
-        (λ answer. KeepsOn answer (state_of M.picture registers.old)
-        (state_of M.picture registers.new)) }
-    ensures refused { OnErr result
-        (state_of M.picture registers.new ≡ state_of M.picture registers.old) }
+    ensures acts { let s = state_of M.picture registers.old in
+        Acts s (state_of M.picture registers.new) result (put_mark s to (length s.held)) }
     ensures past { (M.picture registers.new.memory).past ≡ (M.picture registers.old.memory).past }
 {
     let height = registers.memory.height();
@@ -53,14 +47,9 @@ pub fn choose<M: MachineMemory>(
 ) -> Result<Step, NoMemory>
     requires kind { kind ≢ ChoiceKind.Done }
     requires few { registers.old.choices + 1 < 2 ^ 63 }
-    ensures ok { IfOk result (λ answer. step_result answer [] (state_of M.picture registers.new)
-        ≡ answer_of_push (state_after_push (state_of M.picture registers.old) kind resume)) }
+    ensures acts { Acts (state_of M.picture registers.old) (state_of M.picture registers.new) result
+        (answer_of_push (state_after_push (state_of M.picture registers.old) kind resume)) }
     ensures succeeds { 1 ≤ (M.picture registers.old.memory).choice_room → IsOk result }
-    ensures kept { IfOk result
-        (λ answer. KeepsOn answer (state_of M.picture registers.old)
-        (state_of M.picture registers.new)) }
-    ensures refused { OnErr result
-        (state_of M.picture registers.new ≡ state_of M.picture registers.old) }
     ensures past { (M.picture registers.new.memory).past ≡ (M.picture registers.old.memory).past }
 {
     registers.memory.choose(kind, resume)?;
@@ -72,11 +61,8 @@ pub fn choose<M: MachineMemory>(
 #[tactic(auto, using(crate::proofs::Entries::cuts))]
 pub fn cut<M: MachineMemory>(registers: &mut Registers<M>, slot: u32) -> Step
     requires { HasMark (M.picture registers.old.memory).now slot }
-    ensures step { let s = state_of M.picture registers.old in step_result result []
-        (state_of M.picture registers.new)
-        ≡ mark s slot (λ h. cut_to s h) }
-    ensures kept { KeepsOn result (state_of M.picture registers.old)
-        (state_of M.picture registers.new) }
+    ensures made { let s = state_of M.picture registers.old in
+        Makes s (state_of M.picture registers.new) result (mark s slot (λ h. cut_to s h)) }
     ensures past { (M.picture registers.new.memory).past ≡ (M.picture registers.old.memory).past }
 {
     match mark(registers, slot) {
@@ -96,10 +82,8 @@ pub fn cut<M: MachineMemory>(registers: &mut Registers<M>, slot: u32) -> Step
 #[tactic(auto, using(crate::proofs::Entries::pops))]
 pub fn pop<M: MachineMemory>(registers: &mut Registers<M>) -> Step
     requires few { registers.old.fails + 1 < 2 ^ 63 }
-    ensures step { step_result result [] (state_of M.picture registers.new)
-        ≡ pop (state_of M.picture registers.old) }
-    ensures kept { KeepsOn result (state_of M.picture registers.old)
-        (state_of M.picture registers.new) }
+    ensures made { Makes (state_of M.picture registers.old) (state_of M.picture registers.new)
+        result (pop (state_of M.picture registers.old)) }
     ensures past { (M.picture registers.new.memory).past ≡ (M.picture registers.old.memory).past }
 {
     let height = registers.memory.height();
@@ -123,16 +107,11 @@ pub fn forall<M: MachineMemory>(
 ) -> Result<Step, NoMemory>
     requires mark { HasMark (M.picture registers.old.memory).now slot }
     requires few { registers.old.choices + 1 < 2 ^ 63 }
-    ensures ok { let s = state_of M.picture registers.old in IfOk result
-        (λ answer. step_result answer [] (state_of M.picture registers.new)
-        ≡ to_mark (kind_of s slot) s
-        (λ _. answer_of_push (with_slot (state_after_push s choice.Forall resume) slot (cell.Mark
-        (length s.held + 1))))) }
-    ensures kept { IfOk result
-        (λ answer. KeepsOn answer (state_of M.picture registers.old)
-        (state_of M.picture registers.new)) }
-    ensures refused { OnErr result
-        (state_of M.picture registers.new ≡ state_of M.picture registers.old) }
+    ensures acts { let s = state_of M.picture registers.old in
+        Acts s (state_of M.picture registers.new) result
+        (to_mark (kind_of s slot) s
+        (λ _. answer_of_push (with_slot (state_after_push s choice.Forall resume) slot
+        (cell.Mark (length s.held + 1))))) }
     ensures past { (M.picture registers.new.memory).past ≡ (M.picture registers.old.memory).past }
 {
     registers.memory.reserve(1, 1)?;
@@ -187,14 +166,9 @@ pub fn begin_body<M: MachineMemory>(
 ) -> Result<Step, NoMemory>
     requires mark { HasMark (M.picture registers.old.memory).now slot }
     requires few { registers.old.choices + 1 < 2 ^ 63 }
-    ensures ok { let s = state_of M.picture registers.old in IfOk result
-        (λ answer. step_result answer [] (state_of M.picture registers.new)
-        ≡ mark s slot (λ h. answer_of_push (state_after_push (overlay s h) choice.Body resume))) }
-    ensures kept { IfOk result
-        (λ answer. KeepsOn answer (state_of M.picture registers.old)
-        (state_of M.picture registers.new)) }
-    ensures refused { OnErr result
-        (state_of M.picture registers.new ≡ state_of M.picture registers.old) }
+    ensures acts { let s = state_of M.picture registers.old in
+        Acts s (state_of M.picture registers.new) result
+        (mark s slot (λ h. answer_of_push (state_after_push (overlay s h) choice.Body resume))) }
     ensures past { (M.picture registers.new.memory).past ≡ (M.picture registers.old.memory).past }
 {
     match mark(registers, slot) {
@@ -212,13 +186,8 @@ pub fn begin_body<M: MachineMemory>(
 // Keeps the Body on top in the Forall at a height below it, where they are there.
 #[tactic(auto, using(crate::proofs::Entries::keeps))]
 fn keep_at<M: MachineMemory>(registers: &mut Registers<M>, height: usize) -> Result<Step, NoMemory>
-    ensures ok { IfOk result (λ answer. step_result answer [] (state_of M.picture registers.new)
-        ≡ keep (state_of M.picture registers.old) height) }
-    ensures kept { IfOk result
-        (λ answer. KeepsOn answer (state_of M.picture registers.old)
-        (state_of M.picture registers.new)) }
-    ensures refused { OnErr result
-        (state_of M.picture registers.new ≡ state_of M.picture registers.old) }
+    ensures acts { Acts (state_of M.picture registers.old) (state_of M.picture registers.new) result
+        (keep (state_of M.picture registers.old) height) }
     ensures past { (M.picture registers.new.memory).past ≡ (M.picture registers.old.memory).past }
 {
     let top = registers.memory.height();
@@ -235,14 +204,8 @@ fn keep_at<M: MachineMemory>(registers: &mut Registers<M>, height: usize) -> Res
 /// Keeps the Body on top in the Forall whose height is in a slot.
 pub fn keep<M: MachineMemory>(registers: &mut Registers<M>, slot: u32) -> Result<Step, NoMemory>
     requires { HasMark (M.picture registers.old.memory).now slot }
-    ensures ok { let s = state_of M.picture registers.old in IfOk result
-        (λ answer. step_result answer [] (state_of M.picture registers.new)
-        ≡ mark s slot (λ h. keep s h)) }
-    ensures kept { IfOk result
-        (λ answer. KeepsOn answer (state_of M.picture registers.old)
-        (state_of M.picture registers.new)) }
-    ensures refused { OnErr result
-        (state_of M.picture registers.new ≡ state_of M.picture registers.old) }
+    ensures acts { let s = state_of M.picture registers.old in
+        Acts s (state_of M.picture registers.new) result (mark s slot (λ h. keep s h)) }
     ensures past { (M.picture registers.new.memory).past ≡ (M.picture registers.old.memory).past }
 {
     match mark(registers, slot) {
@@ -254,13 +217,8 @@ pub fn keep<M: MachineMemory>(registers: &mut Registers<M>, slot: u32) -> Result
 /// Drops the Done on top and lays its carry over the frames, where there is one.
 #[tactic(auto, using(crate::proofs::Entries::finishes))]
 pub fn finish<M: MachineMemory>(registers: &mut Registers<M>) -> Result<Step, NoMemory>
-    ensures ok { IfOk result (λ answer. step_result answer [] (state_of M.picture registers.new)
-        ≡ finish (state_of M.picture registers.old)) }
-    ensures kept { IfOk result
-        (λ answer. KeepsOn answer (state_of M.picture registers.old)
-        (state_of M.picture registers.new)) }
-    ensures refused { OnErr result
-        (state_of M.picture registers.new ≡ state_of M.picture registers.old) }
+    ensures acts { Acts (state_of M.picture registers.old) (state_of M.picture registers.new) result
+        (finish (state_of M.picture registers.old)) }
     ensures past { (M.picture registers.new.memory).past ≡ (M.picture registers.old.memory).past }
 {
     if registers.memory.kind_at(registers.memory.height()) == Some(ChoiceKind::Done) {

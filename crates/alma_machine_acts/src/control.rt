@@ -1,11 +1,11 @@
 // Jumps, tests, and loops that count.
-ghost use Rattle.std.specs.Prelude.{◌≡◌, [], IfOk, OnErr};
+ghost use Rattle.std.specs.Prelude.{◌≡◌};
 ghost use Rattle.alma_base.specs.Choice.{if_true};
 ghost use Rattle.alma_base.specs.declared.fault.RunFault.TheVariants as fault;
 ghost use Rattle.alma_base.specs.Numbers.{is_zero};
 ghost use Rattle.alma_code.specs.Machine.{number, put_number, range_check, quiet_step, goes_to, fails_now};
-ghost use Rattle.alma_machine_acts.specs.Rows.{state_of, HasNumber, KeepsOn, count_on};
-ghost use Rattle.alma_machine_acts.specs.Steps.{step_result};
+ghost use Rattle.alma_machine_acts.specs.Acts.{Acts, Makes};
+ghost use Rattle.alma_machine_acts.specs.Rows.{state_of, HasNumber, count_on};
 
 use crate::registers::{Mode, Registers};
 use alma_base::{NoMemory, Range, RunFault};
@@ -17,11 +17,9 @@ impl<M: MachineMemory> Registers<M> {
     #[tactic(auto, using(crate::proofs::Words::tests, std::proofs::lemmas::Int::ints, std::proofs::lemmas::Grind::common_steps))]
     pub fn jump_zero(&mut self, value: u32, to: u32) -> Step
         requires { HasNumber (M.picture self.old.memory).now value }
-        ensures step { let s = state_of M.picture self.old in
-            step_result result [] (state_of M.picture self.new) ≡ number s value
-            (λ v. if_true (is_zero v)
-            (λ _. goes_to to s) (λ _. quiet_step s)) }
-        ensures kept { KeepsOn result (state_of M.picture self.old) (state_of M.picture self.new) }
+        ensures made { let s = state_of M.picture self.old in
+            Makes s (state_of M.picture self.new) result
+            (number s value (λ v. if_true (is_zero v) (λ _. goes_to to s) (λ _. quiet_step s))) }
         ensures past { (M.picture self.new.memory).past ≡ (M.picture self.old.memory).past }
     {
         match self.number(value) {
@@ -39,11 +37,9 @@ impl<M: MachineMemory> Registers<M> {
     #[tactic(auto, using(crate::proofs::Words::tests, std::proofs::lemmas::Int::ints, std::proofs::lemmas::Grind::common_steps))]
     pub fn check(&mut self, value: u32) -> Step
         requires { HasNumber (M.picture self.old.memory).now value }
-        ensures step { let s = state_of M.picture self.old in
-            step_result result [] (state_of M.picture self.new) ≡ number s value
-            (λ v. if_true (is_zero v)
-            (λ _. fails_now s) (λ _. quiet_step s)) }
-        ensures kept { KeepsOn result (state_of M.picture self.old) (state_of M.picture self.new) }
+        ensures made { let s = state_of M.picture self.old in
+            Makes s (state_of M.picture self.new) result
+            (number s value (λ v. if_true (is_zero v) (λ _. fails_now s) (λ _. quiet_step s))) }
         ensures past { (M.picture self.new.memory).past ≡ (M.picture self.old.memory).past }
     {
         match self.number(value) {
@@ -61,10 +57,9 @@ impl<M: MachineMemory> Registers<M> {
     #[tactic(auto, using(std::proofs::lemmas::Int::ints, std::proofs::lemmas::Grind::common_steps))]
     pub fn in_range(&mut self, value: u32, range: &Range) -> Step
         requires { HasNumber (M.picture self.old.memory).now value }
-        ensures step { let s = state_of M.picture self.old in
-            step_result result [] (state_of M.picture self.new) ≡ number s value
-            (λ v. range_check range.now fault.Range s v (λ _. quiet_step s)) }
-        ensures kept { KeepsOn result (state_of M.picture self.old) (state_of M.picture self.new) }
+        ensures made { let s = state_of M.picture self.old in
+            Makes s (state_of M.picture self.new) result
+            (number s value (λ v. range_check range.now fault.Range s v (λ _. quiet_step s))) }
         ensures past { (M.picture self.new.memory).past ≡ (M.picture self.old.memory).past }
     {
         match self.number_within(value, range, RunFault::Range) {
@@ -79,12 +74,9 @@ impl<M: MachineMemory> Registers<M> {
         requires counter { HasNumber (M.picture self.old.memory).now counter }
         requires limit { HasNumber (M.picture self.old.memory).now limit }
         requires by { HasNumber (M.picture self.old.memory).now by }
-        ensures ok { let s = state_of M.picture self.old in
-            IfOk result (λ answer. step_result answer [] (state_of M.picture self.new)
-            ≡ count_on s counter limit by (goes_to out s) (put_number s counter)) }
-        ensures kept { IfOk result
-            (λ answer. KeepsOn answer (state_of M.picture self.old) (state_of M.picture self.new)) }
-        ensures refused { OnErr result (state_of M.picture self.new ≡ state_of M.picture self.old) }
+        ensures acts { let s = state_of M.picture self.old in
+            Acts s (state_of M.picture self.new) result
+            (count_on s counter limit by (goes_to out s) (put_number s counter)) }
         ensures past { (M.picture self.new.memory).past ≡ (M.picture self.old.memory).past }
     {
         match self.next(counter, limit, by) {

@@ -1,10 +1,10 @@
 // Copies of cells.
-ghost use Rattle.std.specs.Prelude.{◌≡◌, ◌≤◌, [], All, length, IfOk, OnErr};
+ghost use Rattle.std.specs.Prelude.{◌≡◌, ◌≤◌, All, length, IfOk};
 ghost use Rattle.alma_code.specs.Fits.{IsContent};
 ghost use Rattle.alma_code.specs.Machine.{place, copies_cells};
+ghost use Rattle.alma_machine_acts.specs.Acts.{Acts, Makes};
 ghost use Rattle.alma_machine_acts.specs.Copies.{cells_from, lay};
-ghost use Rattle.alma_machine_acts.specs.Rows.{state_of, HasCells, KeepsOn, width, AreNumbers};
-ghost use Rattle.alma_machine_acts.specs.Steps.{step_result};
+ghost use Rattle.alma_machine_acts.specs.Rows.{state_of, HasCells, width, AreNumbers};
 
 use crate::places::Spot;
 use crate::registers::Registers;
@@ -35,10 +35,8 @@ fn lay<M: MachineMemory>(registers: &mut Registers<M>, to: Spot, cells: &[Cell])
         (length cells.now) }
     requires contents { All IsContent cells.now }
     requires room { length cells.now ≤ (M.picture registers.old.memory).trail_room }
-    ensures step { step_result result [] (state_of M.picture registers.new)
-        ≡ lay cells.now (state_of M.picture registers.old) to.frame to.slot }
-    ensures kept { KeepsOn result (state_of M.picture registers.old)
-        (state_of M.picture registers.new) }
+    ensures made { Makes (state_of M.picture registers.old) (state_of M.picture registers.new)
+        result (lay cells.now (state_of M.picture registers.old) to.frame to.slot) }
     ensures past { (M.picture registers.new.memory).past ≡ (M.picture registers.old.memory).past }
 {
     for k in 0..cells.len() {
@@ -63,13 +61,9 @@ fn copy<M: MachineMemory>(
 ) -> Result<Step, NoMemory>
     requires to { AreNumbers (M.picture registers.old.memory).now to.frame to.slot count }
     requires from { AreNumbers (M.picture registers.old.memory).now from.frame from.slot count }
-    ensures ok { let s = state_of M.picture registers.old in IfOk result (λ answer.
-        step_result answer [] (state_of M.picture registers.new)
-        ≡ copies_cells count s.now s to.frame to.slot from.frame from.slot) }
-    ensures kept { IfOk result (λ answer. KeepsOn answer (state_of M.picture registers.old)
-        (state_of M.picture registers.new)) }
-    ensures refused { OnErr result
-        (state_of M.picture registers.new ≡ state_of M.picture registers.old) }
+    ensures acts { let s = state_of M.picture registers.old in
+        Acts s (state_of M.picture registers.new) result
+        (copies_cells count s.now s to.frame to.slot from.frame from.slot) }
     ensures past { (M.picture registers.new.memory).past ≡ (M.picture registers.old.memory).past }
 {
     let cells = cells(registers, from, count)?;
@@ -88,13 +82,10 @@ pub fn copy_cells<M: MachineMemory>(
     requires from { HasCells (M.picture registers.old.memory).now from }
     requires alike { width (M.picture registers.old.memory).now to
         ≡ width (M.picture registers.old.memory).now from }
-    ensures ok { let s = state_of M.picture registers.old in IfOk result (λ answer.
-        step_result answer [] (state_of M.picture registers.new) ≡ place s to (λ p. place s from
-        (λ q. copies_cells p.len s.now s p.frame p.slot q.frame q.slot))) }
-    ensures kept { IfOk result (λ answer. KeepsOn answer (state_of M.picture registers.old)
-        (state_of M.picture registers.new)) }
-    ensures refused { OnErr result
-        (state_of M.picture registers.new ≡ state_of M.picture registers.old) }
+    ensures acts { let s = state_of M.picture registers.old in
+        Acts s (state_of M.picture registers.new) result
+        (place s to (λ p. place s from (λ q. copies_cells p.len s.now s p.frame p.slot q.frame
+        q.slot))) }
     ensures past { (M.picture registers.new.memory).past ≡ (M.picture registers.old.memory).past }
 {
     let to = match registers.place(to) {

@@ -1,10 +1,10 @@
 // Equations of cells, one after another, and copies of cells.
-ghost use Rattle.std.specs.Prelude.{◌≡◌, ◌+◌, ◌<◌, ◌≤◌, [], Some, None, IfOk, OnErr, IsOk};
+ghost use Rattle.std.specs.Prelude.{◌≡◌, ◌+◌, ◌<◌, ◌≤◌, Some, None, IfOk, OnErr, IsOk};
 ghost use Rattle.alma_code.specs.declared.cell.Cell.TheVariants as cell;
 ghost use Rattle.alma_code.specs.Machine.{place, equation_of_contents, equation, equations, quiet_step};
-ghost use Rattle.alma_machine_acts.specs.Rows.{state_of, HasCells, HasOneCell, HasNumberIn, KeepsOn, KeepsNumbers, width, AreNumbers};
+ghost use Rattle.alma_machine_acts.specs.Acts.{Acts, Makes};
+ghost use Rattle.alma_machine_acts.specs.Rows.{state_of, HasCells, HasOneCell, HasNumberIn, KeepsNumbers, width, AreNumbers};
 ghost use Rattle.alma_machine_acts.specs.Meets.{Meets, MeetsOn, give_number};
-ghost use Rattle.alma_machine_acts.specs.Steps.{step_result};
 
 use crate::places::Spot;
 use crate::registers::Registers;
@@ -135,14 +135,10 @@ impl<M: MachineMemory> Registers<M> {
     ) -> Result<Step, NoMemory>
         requires left { HasOneCell (M.picture self.old.memory).now left }
         requires right { HasOneCell (M.picture self.old.memory).now right }
-        ensures ok { let s = state_of M.picture self.old in IfOk result
-            (λ answer. step_result answer [] (state_of M.picture self.new)
-            ≡ place s left (λ p. place s right
-            (λ q. equation s p.frame p.slot (Some left_range) q.frame q.slot (Some right_range)
-            quiet_step))) }
-        ensures kept { IfOk result
-            (λ answer. KeepsOn answer (state_of M.picture self.old) (state_of M.picture self.new)) }
-        ensures refused { OnErr result (state_of M.picture self.new ≡ state_of M.picture self.old) }
+        ensures acts { let s = state_of M.picture self.old in
+            Acts s (state_of M.picture self.new) result
+            (place s left (λ p. place s right (λ q. equation s p.frame p.slot (Some left_range)
+            q.frame q.slot (Some right_range) quiet_step))) }
         ensures past { (M.picture self.new.memory).past ≡ (M.picture self.old.memory).past }
     {
         let left = match self.place(left) {
@@ -173,10 +169,9 @@ impl<M: MachineMemory> Registers<M> {
         requires left { AreNumbers (M.picture self.old.memory).now left.frame left.slot count }
         requires right { AreNumbers (M.picture self.old.memory).now right.frame right.slot count }
         requires room { count ≤ (M.picture self.old.memory).trail_room }
-        ensures step { step_result result [] (state_of M.picture self.new)
-            ≡ equations count
-            (state_of M.picture self.old) left.frame left.slot right.frame right.slot }
-        ensures kept { KeepsOn result (state_of M.picture self.old) (state_of M.picture self.new) }
+        ensures made { Makes (state_of M.picture self.old) (state_of M.picture self.new) result
+            (equations count (state_of M.picture self.old) left.frame left.slot right.frame
+            right.slot) }
         ensures past { (M.picture self.new.memory).past ≡ (M.picture self.old.memory).past }
     {
         for k in 0..count {
@@ -204,13 +199,10 @@ impl<M: MachineMemory> Registers<M> {
         requires right { HasCells (M.picture self.old.memory).now right }
         requires alike { width (M.picture self.old.memory).now left
             ≡ width (M.picture self.old.memory).now right }
-        ensures ok { let s = state_of M.picture self.old in IfOk result
-            (λ answer. step_result answer [] (state_of M.picture self.new)
-            ≡ place s left (λ p. place s right
+        ensures acts { let s = state_of M.picture self.old in
+            Acts s (state_of M.picture self.new) result
+            (place s left (λ p. place s right
             (λ q. equations p.len s p.frame p.slot q.frame q.slot))) }
-        ensures kept { IfOk result
-            (λ answer. KeepsOn answer (state_of M.picture self.old) (state_of M.picture self.new)) }
-        ensures refused { OnErr result (state_of M.picture self.new ≡ state_of M.picture self.old) }
         ensures past { (M.picture self.new.memory).past ≡ (M.picture self.old.memory).past }
     {
         let left = match self.place(left) {

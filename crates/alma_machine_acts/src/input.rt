@@ -1,11 +1,11 @@
 // READ.
-ghost use Rattle.std.specs.Prelude.{◌≡◌, ◌<◌, ◌≤◌, ℕ, [], length, slice_get, IfOk, OnErr};
+ghost use Rattle.std.specs.Prelude.{◌≡◌, ◌<◌, ◌≤◌, ℕ, length, slice_get};
 ghost use Rattle.alma_base.specs.Limits.{input_limit};
 ghost use Rattle.alma_base.specs.Reading.{number_from};
 ghost use Rattle.alma_code.specs.Machine.{State, StepResult, place, position, takes_read, byte_or_failure};
-ghost use Rattle.alma_machine_acts.specs.Rows.{state_of, HasOneCell, HasNumberIn, KeepsOn};
+ghost use Rattle.alma_machine_acts.specs.Acts.{Acts};
+ghost use Rattle.alma_machine_acts.specs.Rows.{state_of, HasOneCell, HasNumberIn};
 ghost use Rattle.alma_machine_acts.specs.Inputs.{HasPosition, IsBelow};
-ghost use Rattle.alma_machine_acts.specs.Steps.{step_result};
 
 use crate::registers::Registers;
 use alma_base::{NoMemory, Range, ReadInt, RunFault, read_int};
@@ -64,13 +64,8 @@ fn take<M: MachineMemory>(
     requires below { IsBelow read }
     requires position { HasNumberIn (M.picture registers.old.memory).now 0 0 }
     requires place { HasNumberIn (M.picture registers.old.memory).now place.frame place.slot }
-    ensures ok { IfOk result (λ answer. step_result answer [] (state_of M.picture registers.new)
-        ≡ takes_read (state_of M.picture registers.old) range.now place read) }
-    ensures kept { IfOk result
-        (λ answer. KeepsOn answer (state_of M.picture registers.old)
-        (state_of M.picture registers.new)) }
-    ensures refused { OnErr result
-        (state_of M.picture registers.new ≡ state_of M.picture registers.old) }
+    ensures acts { Acts (state_of M.picture registers.old) (state_of M.picture registers.new) result
+        (takes_read (state_of M.picture registers.old) range.now place read) }
     ensures past { (M.picture registers.new.memory).past ≡ (M.picture registers.old.memory).past }
 {
     match read {
@@ -107,15 +102,9 @@ pub fn read_number<M: MachineMemory>(
     requires lawful { length input.now ≤ input_limit }
     requires position { HasPosition (M.picture registers.old.memory).now }
     requires to { HasOneCell (M.picture registers.old.memory).now to }
-    ensures ok { let s = state_of M.picture registers.old in IfOk result
-        (λ answer. step_result answer [] (state_of M.picture registers.new)
-        ≡ place s to (λ p. position s
-        (λ n. takes_read s range.now p (number_from input.now n)))) }
-    ensures kept { IfOk result
-        (λ answer. KeepsOn answer (state_of M.picture registers.old)
-        (state_of M.picture registers.new)) }
-    ensures refused { OnErr result
-        (state_of M.picture registers.new ≡ state_of M.picture registers.old) }
+    ensures acts { let s = state_of M.picture registers.old in
+        Acts s (state_of M.picture registers.new) result
+        (place s to (λ p. position s (λ n. takes_read s range.now p (number_from input.now n)))) }
     ensures past { (M.picture registers.new.memory).past ≡ (M.picture registers.old.memory).past }
 {
     match registers.place(to) {
@@ -138,15 +127,10 @@ pub fn read_char<M: MachineMemory>(
     requires lawful { length input.now ≤ input_limit }
     requires position { HasPosition (M.picture registers.old.memory).now }
     requires to { HasOneCell (M.picture registers.old.memory).now to }
-    ensures ok { let s = state_of M.picture registers.old in IfOk result
-        (λ answer. step_result answer [] (state_of M.picture registers.new)
-        ≡ place s to (λ p. position s
+    ensures acts { let s = state_of M.picture registers.old in
+        Acts s (state_of M.picture registers.new) result
+        (place s to (λ p. position s
         (λ n. byte_or_failure s range.now p n (slice_get input.now n)))) }
-    ensures kept { IfOk result
-        (λ answer. KeepsOn answer (state_of M.picture registers.old)
-        (state_of M.picture registers.new)) }
-    ensures refused { OnErr result
-        (state_of M.picture registers.new ≡ state_of M.picture registers.old) }
     ensures past { (M.picture registers.new.memory).past ≡ (M.picture registers.old.memory).past }
 {
     match registers.place(to) {

@@ -1,8 +1,8 @@
 // Links to frames, and what they lead to.
-ghost use Rattle.std.specs.Prelude.{◌≡◌, ◌<◌, ℕ, [], IfOk, OnErr};
+ghost use Rattle.std.specs.Prelude.{◌≡◌, ◌<◌, ℕ};
 ghost use Rattle.alma_code.specs.Machine.{State, link, slot_in, as_place, put_link, put_place};
-ghost use Rattle.alma_machine_acts.specs.Rows.{state_of, HasPlaceIn, HasLink, HasLinkTo, LeadsTo, KeepsOn, GivesHeld, GivesLink, point_or_fault, link_or_fault};
-ghost use Rattle.alma_machine_acts.specs.Steps.{step_result};
+ghost use Rattle.alma_machine_acts.specs.Acts.{Acts};
+ghost use Rattle.alma_machine_acts.specs.Rows.{state_of, HasPlaceIn, HasLink, HasLinkTo, LeadsTo, GivesHeld, GivesLink, point_or_fault, link_or_fault};
 
 use crate::places::Spot;
 use crate::registers::Registers;
@@ -41,11 +41,8 @@ impl<M: MachineMemory> Registers<M> {
     #[tactic(auto, using(crate::proofs::Held::put_links))]
     pub fn put_link(&mut self, to: u32, frame: Result<u32, RunFault>) -> Result<Step, NoMemory>
         requires { HasLinkTo (M.picture self.old.memory).now to }
-        ensures ok { IfOk result (λ answer. step_result answer [] (state_of M.picture self.new)
-            ≡ link_or_fault (state_of M.picture self.old) to frame) }
-        ensures kept { IfOk result
-            (λ answer. KeepsOn answer (state_of M.picture self.old) (state_of M.picture self.new)) }
-        ensures refused { OnErr result (state_of M.picture self.new ≡ state_of M.picture self.old) }
+        ensures acts { Acts (state_of M.picture self.old) (state_of M.picture self.new) result
+            (link_or_fault (state_of M.picture self.old) to frame) }
         ensures past { (M.picture self.new.memory).past ≡ (M.picture self.old.memory).past }
     {
         match frame {

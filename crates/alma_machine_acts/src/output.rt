@@ -5,8 +5,8 @@ ghost use Rattle.alma_base.specs.declared.value.Value.TheVariants as kind;
 ghost use Rattle.alma_base.specs.Numbers.{is_zero};
 ghost use Rattle.alma_base.specs.Value.{value_text};
 ghost use Rattle.alma_code.specs.Machine.{number, prints_bytes, run_faults};
-ghost use Rattle.alma_machine_acts.specs.Rows.{state_of, HasNumber, IsNumbered, KeepsOn};
-ghost use Rattle.alma_machine_acts.specs.Steps.{step_result, PrintsOnly};
+ghost use Rattle.alma_machine_acts.specs.Acts.{ActsWith};
+ghost use Rattle.alma_machine_acts.specs.Rows.{state_of, HasNumber, IsNumbered};
 
 use crate::registers::Registers;
 use alma_base::{NoMemory, RunFault, Value, write_value};
@@ -44,16 +44,9 @@ pub fn print_number<M: MachineMemory>(
 ) -> Result<Step, NoMemory>
     requires slot { HasNumber (M.picture registers.old.memory).now value }
     requires empty { bytes.old.items ≡ [] }
-    ensures ok { let s = state_of M.picture registers.old in
-        IfOk result (λ answer. step_result answer bytes.new.items (state_of M.picture registers.new)
-        ≡ number s value (λ v. prints_bytes (value_text (kind.Int v)) s)) }
-    ensures kept { IfOk result
-        (λ answer. KeepsOn answer (state_of M.picture registers.old)
-        (state_of M.picture registers.new)) }
-    ensures quiet { IfOk result (λ answer. PrintsOnly answer bytes.new.items) }
-    ensures refused { OnErr result
-        ((state_of M.picture registers.new ≡ state_of M.picture registers.old) × (bytes.new.items
-        ≡ [])) }
+    ensures acts { let s = state_of M.picture registers.old in
+        ActsWith s (state_of M.picture registers.new) bytes.new.items result
+        (number s value (λ v. prints_bytes (value_text (kind.Int v)) s)) }
     ensures past { (M.picture registers.new.memory).past ≡ (M.picture registers.old.memory).past }
 {
     match registers.number(value) {
@@ -74,16 +67,9 @@ pub fn print_truth<M: MachineMemory>(
 ) -> Result<Step, NoMemory>
     requires slot { HasNumber (M.picture registers.old.memory).now value }
     requires empty { bytes.old.items ≡ [] }
-    ensures ok { let s = state_of M.picture registers.old in
-        IfOk result (λ answer. step_result answer bytes.new.items (state_of M.picture registers.new)
-        ≡ number s value (λ v. prints_bytes (value_text (kind.Bool (not (is_zero v)))) s)) }
-    ensures kept { IfOk result
-        (λ answer. KeepsOn answer (state_of M.picture registers.old)
-        (state_of M.picture registers.new)) }
-    ensures quiet { IfOk result (λ answer. PrintsOnly answer bytes.new.items) }
-    ensures refused { OnErr result
-        ((state_of M.picture registers.new ≡ state_of M.picture registers.old) × (bytes.new.items
-        ≡ [])) }
+    ensures acts { let s = state_of M.picture registers.old in
+        ActsWith s (state_of M.picture registers.new) bytes.new.items result
+        (number s value (λ v. prints_bytes (value_text (kind.Bool (not (is_zero v)))) s)) }
     ensures past { (M.picture registers.new.memory).past ≡ (M.picture registers.old.memory).past }
 {
     match registers.number(value) {
@@ -104,17 +90,10 @@ pub fn print_character<M: MachineMemory>(
 ) -> Result<Step, NoMemory>
     requires slot { HasNumber (M.picture registers.old.memory).now value }
     requires empty { bytes.old.items ≡ [] }
-    ensures ok { let s = state_of M.picture registers.old in
-        IfOk result (λ answer. step_result answer bytes.new.items (state_of M.picture registers.new)
-        ≡ number s value (λ v. prints_bytes (value_text (kind.Char (nat_abs (int_rem_euclid v (pos
-        256))))) s)) }
-    ensures kept { IfOk result
-        (λ answer. KeepsOn answer (state_of M.picture registers.old)
-        (state_of M.picture registers.new)) }
-    ensures quiet { IfOk result (λ answer. PrintsOnly answer bytes.new.items) }
-    ensures refused { OnErr result
-        ((state_of M.picture registers.new ≡ state_of M.picture registers.old) × (bytes.new.items
-        ≡ [])) }
+    ensures acts { let s = state_of M.picture registers.old in
+        ActsWith s (state_of M.picture registers.new) bytes.new.items result
+        (number s value (λ v. prints_bytes
+        (value_text (kind.Char (nat_abs (int_rem_euclid v (pos 256))))) s)) }
     ensures past { (M.picture registers.new.memory).past ≡ (M.picture registers.old.memory).past }
 {
     match registers.number(value) {

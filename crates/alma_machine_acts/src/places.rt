@@ -1,11 +1,11 @@
 // The places that slots name, and their parts.
-ghost use Rattle.std.specs.Prelude.{◌≡◌, ◌+◌, ◌*◌, ◌^◌, ◌<◌, ◌≤◌, ◌-ℤ◌, ℕ, [], true, nat_abs, slice_get, Some, IfOk, OnErr};
+ghost use Rattle.std.specs.Prelude.{◌≡◌, ◌+◌, ◌*◌, ◌^◌, ◌<◌, ◌≤◌, ◌-ℤ◌, ℕ, true, nat_abs, slice_get, Some};
 ghost use Rattle.alma_base.specs.declared.fault.RunFault.TheVariants as fault;
 ghost use Rattle.alma_base.specs.Numbers.{within, range_size};
 ghost use Rattle.alma_code.specs.Machine.{State, number, place, range_check, put_place};
 ghost use Rattle.alma_code.specs.Picture.{last_frame};
-ghost use Rattle.alma_machine_acts.specs.Rows.{state_of, HasNumber, HasPlace, HasCells, KeepsOn, width, point_or_fault};
-ghost use Rattle.alma_machine_acts.specs.Steps.{step_result};
+ghost use Rattle.alma_machine_acts.specs.Acts.{Acts};
+ghost use Rattle.alma_machine_acts.specs.Rows.{state_of, HasNumber, HasPlace, HasCells, width, point_or_fault};
 
 use crate::registers::Registers;
 use alma_base::{NoMemory, Range, RunFault};
@@ -51,11 +51,8 @@ impl<M: MachineMemory> Registers<M> {
     #[tactic(auto, using(crate::proofs::Parts::put_place_is, crate::proofs::Parts::place_is_slot))]
     pub fn put_place(&mut self, to: u32, frame: u32, first: u32) -> Result<Step, NoMemory>
         requires { HasPlace (M.picture self.old.memory).now to }
-        ensures ok { IfOk result (λ answer. step_result answer [] (state_of M.picture self.new)
-            ≡ put_place (state_of M.picture self.old) to frame (λ _. first)) }
-        ensures kept { IfOk result
-            (λ answer. KeepsOn answer (state_of M.picture self.old) (state_of M.picture self.new)) }
-        ensures refused { OnErr result (state_of M.picture self.new ≡ state_of M.picture self.old) }
+        ensures acts { Acts (state_of M.picture self.old) (state_of M.picture self.new) result
+            (put_place (state_of M.picture self.old) to frame (λ _. first)) }
         ensures past { (M.picture self.new.memory).past ≡ (M.picture self.old.memory).past }
     {
         let len = self.place_length(to);
@@ -70,11 +67,8 @@ impl<M: MachineMemory> Registers<M> {
     /// Puts the place that begins at a spot into a place slot, or ends the run in its fault.
     pub fn point(&mut self, to: u32, spot: Result<Spot, RunFault>) -> Result<Step, NoMemory>
         requires { HasPlace (M.picture self.old.memory).now to }
-        ensures ok { IfOk result (λ answer. step_result answer [] (state_of M.picture self.new)
-            ≡ point_or_fault (state_of M.picture self.old) to spot) }
-        ensures kept { IfOk result
-            (λ answer. KeepsOn answer (state_of M.picture self.old) (state_of M.picture self.new)) }
-        ensures refused { OnErr result (state_of M.picture self.new ≡ state_of M.picture self.old) }
+        ensures acts { Acts (state_of M.picture self.old) (state_of M.picture self.new) result
+            (point_or_fault (state_of M.picture self.old) to spot) }
         ensures past { (M.picture self.new.memory).past ≡ (M.picture self.old.memory).past }
     {
         match spot {

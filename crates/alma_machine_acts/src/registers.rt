@@ -1,8 +1,8 @@
 // The state of the machine, and what ends or turns it.
-ghost use Rattle.std.specs.Prelude.{◌≡◌, [], IfOk, OnErr};
+ghost use Rattle.std.specs.Prelude.{◌≡◌};
 ghost use Rattle.alma_code.specs.Machine.{ends_run, goes_to, fails_now, quiet_step, with_slot};
-ghost use Rattle.alma_machine_acts.specs.Rows.{state_of, HasSlot, HasNumber, KeepsOn, put_or_fault};
-ghost use Rattle.alma_machine_acts.specs.Steps.{step_result};
+ghost use Rattle.alma_machine_acts.specs.Acts.{Acts, Makes};
+ghost use Rattle.alma_machine_acts.specs.Rows.{state_of, HasSlot, HasNumber, put_or_fault};
 
 use alma_base::{NoMemory, RunFault};
 use alma_code::{Cell, End, Step};
@@ -35,10 +35,9 @@ pub struct Registers<M: MachineMemory> {
 impl<M: MachineMemory> Registers<M> {
     /// Ends the run.
     pub fn end(&mut self, end: End) -> Step
-        ensures step { step_result result [] (state_of M.picture self.new)
-            ≡ ends_run end (state_of M.picture self.old) }
+        ensures made { Makes (state_of M.picture self.old) (state_of M.picture self.new) result
+            (ends_run end (state_of M.picture self.old)) }
         ensures memory { self.new.memory ≡ self.old.memory }
-        ensures kept { KeepsOn result (state_of M.picture self.old) (state_of M.picture self.new) }
     {
         self.mode = Mode::Ended(end);
         Step::Done(end)
@@ -46,10 +45,9 @@ impl<M: MachineMemory> Registers<M> {
 
     /// Goes to an address.
     pub fn jump(&mut self, to: u32) -> Step
-        ensures step { step_result result [] (state_of M.picture self.new)
-            ≡ goes_to to (state_of M.picture self.old) }
+        ensures made { Makes (state_of M.picture self.old) (state_of M.picture self.new) result
+            (goes_to to (state_of M.picture self.old)) }
         ensures memory { self.new.memory ≡ self.old.memory }
-        ensures kept { KeepsOn result (state_of M.picture self.old) (state_of M.picture self.new) }
     {
         self.at = to;
         Step::Went
@@ -57,10 +55,9 @@ impl<M: MachineMemory> Registers<M> {
 
     /// Fails.
     pub fn fail(&mut self) -> Step
-        ensures step { step_result result [] (state_of M.picture self.new)
-            ≡ fails_now (state_of M.picture self.old) }
+        ensures made { Makes (state_of M.picture self.old) (state_of M.picture self.new) result
+            (fails_now (state_of M.picture self.old)) }
         ensures memory { self.new.memory ≡ self.old.memory }
-        ensures kept { KeepsOn result (state_of M.picture self.old) (state_of M.picture self.new) }
     {
         self.mode = Mode::Failing;
         Step::Went
@@ -70,11 +67,8 @@ impl<M: MachineMemory> Registers<M> {
     #[inline(always)]
     pub fn write(&mut self, to: u32, cell: Cell) -> Result<Step, NoMemory>
         requires { HasSlot (M.picture self.old.memory).now to }
-        ensures ok { IfOk result (λ answer. step_result answer [] (state_of M.picture self.new)
-            ≡ quiet_step (with_slot (state_of M.picture self.old) to cell)) }
-        ensures kept { IfOk result
-            (λ answer. KeepsOn answer (state_of M.picture self.old) (state_of M.picture self.new)) }
-        ensures refused { OnErr result (state_of M.picture self.new ≡ state_of M.picture self.old) }
+        ensures acts { Acts (state_of M.picture self.old) (state_of M.picture self.new) result
+            (quiet_step (with_slot (state_of M.picture self.old) to cell)) }
         ensures past { (M.picture self.new.memory).past ≡ (M.picture self.old.memory).past }
     {
         self.memory.put(to, cell)?;
@@ -85,11 +79,8 @@ impl<M: MachineMemory> Registers<M> {
     #[tactic(auto, using(crate::proofs::Words::puts))]
     pub fn put(&mut self, to: u32, number: Result<i64, RunFault>) -> Result<Step, NoMemory>
         requires { HasNumber (M.picture self.old.memory).now to }
-        ensures ok { IfOk result (λ answer. step_result answer [] (state_of M.picture self.new)
-            ≡ put_or_fault (state_of M.picture self.old) to number) }
-        ensures kept { IfOk result
-            (λ answer. KeepsOn answer (state_of M.picture self.old) (state_of M.picture self.new)) }
-        ensures refused { OnErr result (state_of M.picture self.new ≡ state_of M.picture self.old) }
+        ensures acts { Acts (state_of M.picture self.old) (state_of M.picture self.new) result
+            (put_or_fault (state_of M.picture self.old) to number) }
         ensures past { (M.picture self.new.memory).past ≡ (M.picture self.old.memory).past }
     {
         match number {

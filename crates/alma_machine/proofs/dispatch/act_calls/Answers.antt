@@ -2,7 +2,7 @@ use Rattle.std.proofs.Common.{[], ap, sym, ◌∙◌}
 use Rattle.alma_code.specs.Machine.{act, arguments, enters_routine}
 use Rattle.alma_machine_acts.specs.Rows.{state_of}
 use Rattle.alma_machine.proofs.Acting.{call_is}
-use Rattle.alma_machine_acts.proofs.Words.{ok_is}
+use Rattle.alma_machine_acts.proofs.Words.{acts_is}
 use Rattle.alma_machine.proofs.Others.{call_else}
 use Rattle.alma_machine.proofs.dispatch.act_calls.Goals as goal
 
@@ -21,16 +21,16 @@ act_input-requires g c =
       lawful = c.requires.lawful;
     }
 
-pub returns-in-Some-clause-ok : goal.returns-in-Some-clause-ok
-returns-in-Some-clause-ok g c =
+pub returns-in-Some-clause-acts : goal.returns-in-Some-clause-acts
+returns-in-Some-clause-acts g c =
     let code = g.V.CodeView.code c.args.view.now in
     let s = state_of g.M.MachineMemory.picture c.args.registers.now in
     let head = g.V.Routine.Head.head c.in-Some.head in
     let r = c.in-Call.routine in
     let first = c.in-Call.first in
-    ok_is c.call.result [] (state_of g.M.MachineMemory.picture c.call.new.registers)
+    acts_is c.call.result s (state_of g.M.MachineMemory.picture c.call.new.registers)
     (arguments head.params s first (λ args. enters_routine s r c.start.result head args)) (act code c.args.input.now c.args.instr s)
-    c.call.ensures.ok
+    c.call.ensures.acts
     (ap (λ start. arguments head.params s first (λ args. enters_routine s r start head args)) c.start.ensures
     ∙ call_is code c.args.input.now r first c.in-Call.to s head c.in-Some.ensures
     ∙ sym (ap (λ i. act code c.args.input.now i s) c.in-Call.is))

@@ -1,16 +1,16 @@
 use Rattle.std.proofs.Common.{[], sym, ◌∙◌, refl}
 use Rattle.alma_code.specs.Machine.{place, copies_cells}
 use Rattle.alma_machine_acts.specs.Rows.{state_of}
-use Rattle.alma_machine_acts.proofs.Words.{ok_is}
+use Rattle.alma_machine_acts.proofs.Words.{acts_is}
 use Rattle.alma_machine_acts.proofs.copies.copy_cells.Goals as goal
 
-pub returns-clause-ok : goal.returns-clause-ok
-returns-clause-ok g c =
+pub returns-clause-acts : goal.returns-clause-acts
+returns-clause-acts g c =
     let s = state_of g.M.MachineMemory.picture c.args.registers.now in
     let to = c.in-Ok.place in
     let from = c.in-Ok-place.place in
-    ok_is c.copy.result [] (state_of g.M.MachineMemory.picture c.copy.new.registers)
+    acts_is c.copy.result s (state_of g.M.MachineMemory.picture c.copy.new.registers)
     (copies_cells to.len s.now s to.frame to.slot from.frame from.slot)
-    (place s c.args.to (λ p. place s c.args.from (λ q. copies_cells p.len s.now s p.frame p.slot q.frame q.slot))) c.copy.ensures.ok
+    (place s c.args.to (λ p. place s c.args.from (λ q. copies_cells p.len s.now s p.frame p.slot q.frame q.slot))) c.copy.ensures.acts
     (sym (c.in-Ok.ensures.1 s (λ p. place s c.args.from (λ q. copies_cells p.len s.now s p.frame p.slot q.frame q.slot)) refl
     ∙ c.in-Ok-place.ensures.1 s (λ q. copies_cells to.len s.now s to.frame to.slot q.frame q.slot) refl))

@@ -2,22 +2,22 @@ use Rattle.std.proofs.Common.{◌∙◌, [], refl, sym, ap}
 use Rattle.alma_base.specs.Reading.{number_from}
 use Rattle.alma_code.specs.Machine.{position, takes_read}
 use Rattle.alma_machine_acts.specs.Rows.{state_of}
-use Rattle.alma_machine_acts.proofs.Words.{ok_is}
+use Rattle.alma_machine_acts.proofs.Words.{makes_is, acts_is}
 use Rattle.alma_machine_acts.proofs.input.read_number.Goals as goal
 
-pub returns-in-Err-clause-ok : goal.returns-in-Err-clause-ok
-returns-in-Err-clause-ok g c =
+pub returns-in-Err-clause-acts : goal.returns-in-Err-clause-acts
+returns-in-Err-clause-acts g c =
     let s = state_of g.M.MachineMemory.picture c.args.registers.now in
-    c.end.ensures.step ∙ sym (c.in-Err.ensures s (λ p. position s (λ n. takes_read s c.args.range.now p (number_from c.args.input.now n)))
-    refl)
+    makes_is _ _ _ _ _ c.end.ensures.made (sym (c.in-Err.ensures s (λ p. position s (λ n. takes_read s c.args.range.now p (number_from c.args.input.now n)))
+    refl))
 
-pub returns-in-Ok-clause-ok : goal.returns-in-Ok-clause-ok
-returns-in-Ok-clause-ok g c =
+pub returns-in-Ok-clause-acts : goal.returns-in-Ok-clause-acts
+returns-in-Ok-clause-acts g c =
     let s = state_of g.M.MachineMemory.picture c.args.registers.now in
     let range = c.args.range.now in
     let input = c.args.input.now in
-    ok_is c.take.result [] (state_of g.M.MachineMemory.picture c.take.new.registers)
-    (takes_read s range c.in-Ok.place c.find_number.result) _ c.take.ensures.ok
+    acts_is c.take.result s (state_of g.M.MachineMemory.picture c.take.new.registers)
+    (takes_read s range c.in-Ok.place c.find_number.result) _ c.take.ensures.acts
     (sym (c.in-Ok.ensures.1 s (λ p. position s (λ n. takes_read s range p (number_from input n))) refl
     ∙ c.position-from.ensures s (λ n. takes_read s range c.in-Ok.place (number_from input n)) refl
     ∙ ap (takes_read s range c.in-Ok.place) (sym c.find_number.ensures.found)))

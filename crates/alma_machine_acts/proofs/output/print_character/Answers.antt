@@ -10,19 +10,27 @@ use Rattle.alma_machine_acts.specs.Rows.{state_of}
 use Rattle.alma_machine_acts.specs.Steps.{step_result}
 use Rattle.alma_machine_acts.proofs.output.print_character.Goals as goal
 
-pub returns-in-Err-clause-ok : goal.returns-in-Err-clause-ok
-returns-in-Err-clause-ok g c =
+pub returns-in-Err-clause-acts : goal.returns-in-Err-clause-acts
+returns-in-Err-clause-acts g c =
     let s = state_of g.M.MachineMemory.picture c.args.registers.now in
-    ap (λ b. step_result c.end.result b (state_of g.M.MachineMemory.picture c.end.new.self)) c.requires.empty ∙ c.end.ensures.step
-    ∙ sym (c.in-Err.ensures s (λ v. prints_bytes (value_text (kind.Char (nat_abs (int_rem_euclid v (pos 256))))) s) refl)
+    record {
+      step = ap (λ b. step_result c.end.result b (state_of g.M.MachineMemory.picture c.end.new.self)) c.requires.empty ∙ c.end.ensures.made.step
+          ∙ sym (c.in-Err.ensures s (λ v. prints_bytes (value_text (kind.Char (nat_abs (int_rem_euclid v (pos 256))))) s) refl);
+      kept = search rules;
+      quiet = search rules;
+    }
 
-pub returns-in_ok-write_value-in-Ok-clause-ok : goal.returns-in_ok-write_value-in-Ok-clause-ok
-returns-in_ok-write_value-in-Ok-clause-ok g c =
+pub returns-in_ok-write_value-in-Ok-clause-acts : goal.returns-in_ok-write_value-in-Ok-clause-acts
+returns-in_ok-write_value-in-Ok-clause-acts g c =
     let s = state_of g.M.MachineMemory.picture c.args.registers.now in
     let v = c.in-Ok.number in
     let n = c.rem_euclid.result in
-    ap (λ b. step_result answer.Printed b s) (c.in_ok-write_value-in-Ok.ensures.ok
-    ∙ ap (λ b. b ++ (nat_abs (to_z w64 (of_z w64 n)) ∷ [])) c.requires.empty
-    ∙ ap (λ n. nat_abs n ∷ []) (to_z-of_z w64 n (search rules) ∙ c.rem_euclid.ensures.value
-    ∙ ap (λ v. int_rem_euclid v (pos 256)) (to_z-of_z w64 v (search rules))))
-    ∙ sym (c.in-Ok.ensures s (λ v. prints_bytes (value_text (kind.Char (nat_abs (int_rem_euclid v (pos 256))))) s) refl)
+    record {
+      step = ap (λ b. step_result answer.Printed b s) (c.in_ok-write_value-in-Ok.ensures.ok
+          ∙ ap (λ b. b ++ (nat_abs (to_z w64 (of_z w64 n)) ∷ [])) c.requires.empty
+          ∙ ap (λ n. nat_abs n ∷ []) (to_z-of_z w64 n (search rules) ∙ c.rem_euclid.ensures.value
+          ∙ ap (λ v. int_rem_euclid v (pos 256)) (to_z-of_z w64 v (search rules))))
+          ∙ sym (c.in-Ok.ensures s (λ v. prints_bytes (value_text (kind.Char (nat_abs (int_rem_euclid v (pos 256))))) s) refl);
+      kept = search rules;
+      quiet = search rules;
+    }

@@ -1,4 +1,4 @@
-use Rattle.std.proofs.Common.{refl, sym, ap, ◌∙◌}
+use Rattle.std.proofs.Common.{rules, refl, sym, ap, ◌∙◌}
 use Rattle.std.specs.Prelude.{not}
 use Rattle.alma_base.specs.Numbers.{is_zero}
 use Rattle.alma_base.specs.Value.{value_text}
@@ -8,8 +8,12 @@ use Rattle.alma_machine_acts.specs.Rows.{state_of}
 use Rattle.alma_machine_acts.specs.Steps.{step_result}
 use Rattle.alma_machine_acts.proofs.output.print_truth.Goals as goal
 
-pub returns-in-Err-clause-ok : goal.returns-in-Err-clause-ok
-returns-in-Err-clause-ok g c =
+pub returns-in-Err-clause-acts : goal.returns-in-Err-clause-acts
+returns-in-Err-clause-acts g c =
     let s = state_of g.M.MachineMemory.picture c.args.registers.now in
-    ap (λ b. step_result c.end.result b (state_of g.M.MachineMemory.picture c.end.new.self)) c.requires.empty ∙ c.end.ensures.step
-    ∙ sym (c.in-Err.ensures s (λ v. prints_bytes (value_text (kind.Bool (not (is_zero v)))) s) refl)
+    record {
+      step = ap (λ b. step_result c.end.result b (state_of g.M.MachineMemory.picture c.end.new.self)) c.requires.empty ∙ c.end.ensures.made.step
+          ∙ sym (c.in-Err.ensures s (λ v. prints_bytes (value_text (kind.Bool (not (is_zero v)))) s) refl);
+      kept = search rules;
+      quiet = search rules;
+    }

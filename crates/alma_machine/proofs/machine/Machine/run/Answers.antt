@@ -193,7 +193,7 @@ loop-made-preserved-then-made-budget g c =
           (prints old.code old.input (m + 1) old.state)
           (subst (λ (bytes : List ℕ). Appends (g.K.Sink.side c.args.out.now).written (g.K.Sink.side c.loop-made.out).written bytes)
           (sym (prints_dash old c.loop-made.self c.loop-made.made d.result before d.ensures.silent)) c.loop-made.invariant.out)
-              gains.bytes_are
+          gains.bytes_are
           (prints_then old d.new.self c.step.new.self m c.in-Ok.step now c.in-Ok.ensures.step
           ∙ ap (λ bytes. prints old.code old.input m old.state ++ bytes) (sym c.printed.ensures));
       quiet = gains.quiet ∙ c.loop-made.invariant.quiet;

@@ -2,37 +2,36 @@ use Rattle.std.proofs.Common.{rules, [], refl, sym, ap, ◌∙◌, w64, to_z, of
 use Rattle.std.proofs.lemmas.Int.{to_z-of_z}
 use Rattle.alma_code.specs.Machine.{number, place, content, binds_content}
 use Rattle.alma_machine_acts.specs.Rows.{state_of}
-use Rattle.alma_machine_acts.proofs.Words.{ok_is, one_slot}
+use Rattle.alma_machine_acts.proofs.Words.{makes_is, acts_is, one_slot}
 use Rattle.alma_machine_acts.proofs.registers.Registers.bind.Goals as goal
 
 pub bind_to-requires : goal.bind_to-requires
 bind_to-requires g c =
     one_slot (g.M.MachineMemory.picture c.args.self.now.memory).now _ c.in-Ok.place c.in-Ok.ensures.0 c.requires.to.one
 
-pub returns-in-Err-clause-ok : goal.returns-in-Err-clause-ok
-returns-in-Err-clause-ok g c =
+pub returns-in-Err-clause-acts : goal.returns-in-Err-clause-acts
+returns-in-Err-clause-acts g c =
     let s = state_of g.M.MachineMemory.picture c.args.self.now in
-    c.end.ensures.step ∙ sym (c.in-Err.ensures s
-    (λ p. number s c.args.value (λ v. content s p.frame p.slot (λ u. binds_content s p c.args.range.now v u))) refl)
+    makes_is _ _ _ _ _ c.end.ensures.made (sym (c.in-Err.ensures s
+    (λ p. number s c.args.value (λ v. content s p.frame p.slot (λ u. binds_content s p c.args.range.now v u))) refl))
 
-pub returns-in-Err-number-clause-ok : goal.returns-in-Err-number-clause-ok
-returns-in-Err-number-clause-ok g c =
+pub returns-in-Err-number-clause-acts : goal.returns-in-Err-number-clause-acts
+returns-in-Err-number-clause-acts g c =
     let s = state_of g.M.MachineMemory.picture c.args.self.now in
     let r = c.args.range.now in
     let p = c.in-Ok.place in
-    c.end-in-Err-number.ensures.step
-    ∙ sym (c.in-Ok.ensures.1 s (λ p. number s c.args.value (λ v. content s p.frame p.slot (λ u. binds_content s p r v u))) refl
-    ∙ c.in-Err-number.ensures s (λ v. content s p.frame p.slot (λ u. binds_content s p r v u)) refl)
+    makes_is _ _ _ _ _ c.end-in-Err-number.ensures.made (sym (c.in-Ok.ensures.1 s (λ p. number s c.args.value (λ v. content s p.frame p.slot (λ u. binds_content s p r v u))) refl
+    ∙ c.in-Err-number.ensures s (λ v. content s p.frame p.slot (λ u. binds_content s p r v u)) refl))
 
-pub returns-in-Ok-number-clause-ok : goal.returns-in-Ok-number-clause-ok
-returns-in-Ok-number-clause-ok g c =
+pub returns-in-Ok-number-clause-acts : goal.returns-in-Ok-number-clause-acts
+returns-in-Ok-number-clause-acts g c =
     let s = state_of g.M.MachineMemory.picture c.args.self.now in
     let r = c.args.range.now in
     let p = c.in-Ok.place in
     let v = c.in-Ok-number.number in
-    ok_is c.bind_to.result [] (state_of g.M.MachineMemory.picture c.bind_to.new.self)
+    acts_is c.bind_to.result s (state_of g.M.MachineMemory.picture c.bind_to.new.self)
     (content s p.frame p.slot (λ u. binds_content s p r (to_z w64 (of_z w64 v)) u))
-    (place s c.args.to (λ p. number s c.args.value (λ v. content s p.frame p.slot (λ u. binds_content s p r v u)))) c.bind_to.ensures.ok
+    (place s c.args.to (λ p. number s c.args.value (λ v. content s p.frame p.slot (λ u. binds_content s p r v u)))) c.bind_to.ensures.acts
     (ap (λ n. content s p.frame p.slot (λ u. binds_content s p r n u)) (to_z-of_z w64 v (search rules))
     ∙ sym (c.in-Ok.ensures.1 s (λ p. number s c.args.value (λ v. content s p.frame p.slot (λ u. binds_content s p r v u))) refl
     ∙ c.in-Ok-number.ensures s (λ v. content s p.frame p.slot (λ u. binds_content s p r v u)) refl))

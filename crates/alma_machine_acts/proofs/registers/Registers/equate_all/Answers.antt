@@ -1,4 +1,4 @@
-use Rattle.std.proofs.Common.{◌+◌, sym, subst, ◌∙◌, arith}
+use Rattle.std.proofs.Common.{rules, ◌+◌, sym, subst, ◌∙◌, arith}
 use Rattle.std.specs.Prelude.{None}
 use Rattle.alma_code.specs.Machine.{equation}
 use Rattle.alma_machine_acts.specs.declared.equations.Met.TheVariants.{Holds, Ends}
@@ -7,8 +7,8 @@ use Rattle.alma_machine_acts.specs.Rows.{state_of}
 use Rattle.alma_machine_acts.proofs.Meetings.{equated_more, equations_end}
 use Rattle.alma_machine_acts.proofs.registers.Registers.equate_all.Goals as goal
 
-pub returns-in-Ok-Ends-clause-step : goal.returns-in-Ok-Ends-clause-step
-returns-in-Ok-Ends-clause-step g c =
+pub returns-in-Ok-Ends-clause-made : goal.returns-in-Ok-Ends-clause-made
+returns-in-Ok-Ends-clause-made g c =
     let t = state_of g.M.MachineMemory.picture c.loop-k.self in
     let u = state_of g.M.MachineMemory.picture c.equate.new.self in
     let f = c.args.left.frame in
@@ -18,7 +18,7 @@ returns-in-Ok-Ends-clause-step g c =
     let k = c.loop-k.k in
     let ends : Meets (Ends c.in-Ok-Ends.step) (λ q. equation t f (i + k) None b (j + k) None q) u =
     subst (λ met. Meets met (λ q. equation t f (i + k) None b (j + k) None q) u) c.in-Ok-Ends.field-0-is c.in-Ok-Ends.ensures.ok in
-    sym (c.loop-k.invariant.equation_of_contents.rest ∙ equations_end c.args.count k t u c.in-Ok-Ends.step f i b j c.loop-k-test.true ends)
+    record { step = sym (c.loop-k.invariant.equation_of_contents.rest ∙ equations_end c.args.count k t u c.in-Ok-Ends.step f i b j c.loop-k-test.true ends); kept = search rules }
 
 pub loop-k-preserved : goal.loop-k-preserved
 loop-k-preserved g c =

@@ -1,10 +1,10 @@
-use Rattle.std.proofs.Common.{refl, sym, subst, ◌∙◌}
+use Rattle.std.proofs.Common.{rules, refl, sym, subst, ◌∙◌}
 use Rattle.std.specs.Prelude.{Some}
 use Rattle.alma_code.specs.Machine.{place, equation, quiet_step}
 use Rattle.alma_machine_acts.specs.declared.equations.Met.TheVariants.{Holds, Ends}
 use Rattle.alma_machine_acts.specs.Meets.{Meets}
 use Rattle.alma_machine_acts.specs.Rows.{state_of, width}
-use Rattle.alma_machine_acts.proofs.Words.{one_slot}
+use Rattle.alma_machine_acts.proofs.Words.{makes_is, one_slot}
 use Rattle.alma_machine_acts.proofs.registers.Registers.unify.Goals as goal
 
 pub equate-requires : goal.equate-requires
@@ -15,25 +15,25 @@ equate-requires g c =
       right = one_slot now (width now c.args.right) c.in-Ok-place.place c.in-Ok-place.ensures.0 c.requires.right.one;
     }
 
-pub returns-in-Err-clause-ok : goal.returns-in-Err-clause-ok
-returns-in-Err-clause-ok g c =
+pub returns-in-Err-clause-acts : goal.returns-in-Err-clause-acts
+returns-in-Err-clause-acts g c =
     let s = state_of g.M.MachineMemory.picture c.args.self.now in
     let a = c.args in
-    c.end.ensures.step ∙ sym (c.in-Err.ensures s
-    (λ p. place s a.right (λ q. equation s p.frame p.slot (Some a.left_range) q.frame q.slot (Some a.right_range) quiet_step)) refl)
+    makes_is _ _ _ _ _ c.end.ensures.made (sym (c.in-Err.ensures s
+    (λ p. place s a.right (λ q. equation s p.frame p.slot (Some a.left_range) q.frame q.slot (Some a.right_range) quiet_step)) refl))
 
-pub returns-in-Err-place-clause-ok : goal.returns-in-Err-place-clause-ok
-returns-in-Err-place-clause-ok g c =
+pub returns-in-Err-place-clause-acts : goal.returns-in-Err-place-clause-acts
+returns-in-Err-place-clause-acts g c =
     let s = state_of g.M.MachineMemory.picture c.args.self.now in
     let a = c.args in
     let p = c.in-Ok.place in
-    c.end-in-Err-place.ensures.step ∙ sym (c.in-Ok.ensures.1 s
+    makes_is _ _ _ _ _ c.end-in-Err-place.ensures.made (sym (c.in-Ok.ensures.1 s
     (λ p. place s a.right (λ q. equation s p.frame p.slot (Some a.left_range) q.frame q.slot (Some a.right_range) quiet_step)) refl
     ∙ c.in-Err-place.ensures s
-    (λ q. equation s p.frame p.slot (Some a.left_range) q.frame q.slot (Some a.right_range) quiet_step) refl)
+    (λ q. equation s p.frame p.slot (Some a.left_range) q.frame q.slot (Some a.right_range) quiet_step) refl))
 
-pub returns-in-Holds-clause-ok : goal.returns-in-Holds-clause-ok
-returns-in-Holds-clause-ok g c =
+pub returns-in-Holds-clause-acts : goal.returns-in-Holds-clause-acts
+returns-in-Holds-clause-acts g c =
     let s = state_of g.M.MachineMemory.picture c.args.self.now in
     let t = state_of g.M.MachineMemory.picture c.equate.new.self in
     let a = c.args in
@@ -42,13 +42,16 @@ returns-in-Holds-clause-ok g c =
     let holds : Meets Holds (λ k. equation s p.frame p.slot (Some a.left_range) q.frame q.slot (Some a.right_range) k) t =
     subst (λ met. Meets met (λ k. equation s p.frame p.slot (Some a.left_range) q.frame q.slot (Some a.right_range) k) t)
     c.in-Holds.is c.in_ok-equate.ensures.ok in
-    sym (c.in-Ok.ensures.1 s
-    (λ p. place s a.right (λ q. equation s p.frame p.slot (Some a.left_range) q.frame q.slot (Some a.right_range) quiet_step)) refl
-    ∙ c.in-Ok-place.ensures.1 s
-    (λ q. equation s p.frame p.slot (Some a.left_range) q.frame q.slot (Some a.right_range) quiet_step) refl ∙ holds quiet_step)
+    record {
+      step = sym (c.in-Ok.ensures.1 s
+          (λ p. place s a.right (λ q. equation s p.frame p.slot (Some a.left_range) q.frame q.slot (Some a.right_range) quiet_step)) refl
+          ∙ c.in-Ok-place.ensures.1 s
+          (λ q. equation s p.frame p.slot (Some a.left_range) q.frame q.slot (Some a.right_range) quiet_step) refl ∙ holds quiet_step);
+      kept = search rules;
+    }
 
-pub returns-in-Ends-clause-ok : goal.returns-in-Ends-clause-ok
-returns-in-Ends-clause-ok g c =
+pub returns-in-Ends-clause-acts : goal.returns-in-Ends-clause-acts
+returns-in-Ends-clause-acts g c =
     let s = state_of g.M.MachineMemory.picture c.args.self.now in
     let t = state_of g.M.MachineMemory.picture c.equate.new.self in
     let a = c.args in
@@ -57,7 +60,10 @@ returns-in-Ends-clause-ok g c =
     let ends : Meets (Ends c.in-Ends.step) (λ k. equation s p.frame p.slot (Some a.left_range) q.frame q.slot (Some a.right_range) k) t =
     subst (λ met. Meets met (λ k. equation s p.frame p.slot (Some a.left_range) q.frame q.slot (Some a.right_range) k) t)
     c.in-Ends.is c.in_ok-equate.ensures.ok in
-    sym (c.in-Ok.ensures.1 s
-    (λ p. place s a.right (λ q. equation s p.frame p.slot (Some a.left_range) q.frame q.slot (Some a.right_range) quiet_step)) refl
-    ∙ c.in-Ok-place.ensures.1 s
-    (λ q. equation s p.frame p.slot (Some a.left_range) q.frame q.slot (Some a.right_range) quiet_step) refl ∙ ends quiet_step)
+    record {
+      step = sym (c.in-Ok.ensures.1 s
+          (λ p. place s a.right (λ q. equation s p.frame p.slot (Some a.left_range) q.frame q.slot (Some a.right_range) quiet_step)) refl
+          ∙ c.in-Ok-place.ensures.1 s
+          (λ q. equation s p.frame p.slot (Some a.left_range) q.frame q.slot (Some a.right_range) quiet_step) refl ∙ ends quiet_step);
+      kept = search rules;
+    }
