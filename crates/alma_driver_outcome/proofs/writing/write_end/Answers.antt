@@ -6,7 +6,7 @@ use Rattle.alma_driver_outcome.proofs.writing.write_end.Goals as goal
 pub returns : goal.returns
 returns g c =
     writes_after c.write_text.result (g.E.Sink.side c.args.err.now) (g.E.Sink.side c.write_counts.new.err)
-        (g.E.Sink.side c.write_text.new.err)
+    (g.E.Sink.side c.write_text.new.err)
     (counts_text (counts_with c.args.end)) (end_text c.args.file.now c.args.end) (rw c.counts.ensures at c.in_ok-write_counts.ensures)
     c.write_text.ensures
 

@@ -16,5 +16,5 @@ returns g c =
     (c.as_bytes-name.ensures.value ∙ c.text.ensures) c.as_slice.ensures (c.as_bytes-number.ensures.value ∙ c.format.ensures.text)
     c.as_slice-end.ensures in
     subst (λ (bytes : List ℕ). Writes (g.E.Sink.side c.args.err.now) (g.E.Sink.side c.write_parts-2.new.sink) bytes c.write_parts-2.result)
-        same
+    same
     c.write_parts-2.ensures

@@ -16,5 +16,5 @@ returns-in-Some g c =
     c.as_slice-front.ensures c.name-name.ensures c.as_slice.ensures
     (c.as_bytes-number.ensures.value ∙ c.format.ensures.text) c.as_slice-end.ensures in
     subst (λ (bytes : List ℕ). Writes (g.E.Sink.side c.args.err.now) (g.E.Sink.side c.write_parts-in-Some.new.sink) bytes
-        c.write_parts-in-Some.result) same
+    c.write_parts-in-Some.result) same
     c.write_parts-in-Some.ensures

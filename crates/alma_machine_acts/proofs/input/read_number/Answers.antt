@@ -8,7 +8,8 @@ use Rattle.alma_machine_acts.proofs.input.read_number.Goals as goal
 pub returns-in-Err-clause-acts : goal.returns-in-Err-clause-acts
 returns-in-Err-clause-acts g c =
     let s = state_of g.M.MachineMemory.picture c.args.registers.now in
-    makes_is _ _ _ _ _ c.end.ensures.made (sym (c.in-Err.ensures s (λ p. position s (λ n. takes_read s c.args.range.now p (number_from c.args.input.now n)))
+    makes_is _ _ _ _ _ c.end.ensures.made (sym
+    (c.in-Err.ensures s (λ p. position s (λ n. takes_read s c.args.range.now p (number_from c.args.input.now n)))
     refl))
 
 pub returns-in-Ok-clause-acts : goal.returns-in-Ok-clause-acts

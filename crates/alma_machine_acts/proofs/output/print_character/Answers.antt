@@ -14,7 +14,8 @@ pub returns-in-Err-clause-acts : goal.returns-in-Err-clause-acts
 returns-in-Err-clause-acts g c =
     let s = state_of g.M.MachineMemory.picture c.args.registers.now in
     record {
-      step = ap (λ b. step_result c.end.result b (state_of g.M.MachineMemory.picture c.end.new.self)) c.requires.empty ∙ c.end.ensures.made.step
+      step = ap (λ b. step_result c.end.result b (state_of g.M.MachineMemory.picture c.end.new.self)) c.requires.empty
+          ∙ c.end.ensures.made.step
           ∙ sym (c.in-Err.ensures s (λ v. prints_bytes (value_text (kind.Char (nat_abs (int_rem_euclid v (pos 256))))) s) refl);
       kept = search rules;
       quiet = search rules;

@@ -20,7 +20,8 @@ returns-in-Err-number-clause-acts g c =
     let s = state_of g.M.MachineMemory.picture c.args.self.now in
     let r = c.args.range.now in
     let p = c.in-Ok.place in
-    makes_is _ _ _ _ _ c.end-in-Err-number.ensures.made (sym (c.in-Ok.ensures.1 s (λ p. number s c.args.value (λ v. content s p.frame p.slot (λ u. binds_content s p r v u))) refl
+    makes_is _ _ _ _ _ c.end-in-Err-number.ensures.made
+    (sym (c.in-Ok.ensures.1 s (λ p. number s c.args.value (λ v. content s p.frame p.slot (λ u. binds_content s p r v u))) refl
     ∙ c.in-Err-number.ensures s (λ v. content s p.frame p.slot (λ u. binds_content s p r v u)) refl))
 
 pub returns-in-Ok-number-clause-acts : goal.returns-in-Ok-number-clause-acts

@@ -18,7 +18,11 @@ returns-in-Ok-Ends-clause-made g c =
     let k = c.loop-k.k in
     let ends : Meets (Ends c.in-Ok-Ends.step) (λ q. equation t f (i + k) None b (j + k) None q) u =
     subst (λ met. Meets met (λ q. equation t f (i + k) None b (j + k) None q) u) c.in-Ok-Ends.field-0-is c.in-Ok-Ends.ensures.ok in
-    record { step = sym (c.loop-k.invariant.equation_of_contents.rest ∙ equations_end c.args.count k t u c.in-Ok-Ends.step f i b j c.loop-k-test.true ends); kept = search rules }
+    record {
+      step = sym (c.loop-k.invariant.equation_of_contents.rest
+          ∙ equations_end c.args.count k t u c.in-Ok-Ends.step f i b j c.loop-k-test.true ends);
+      kept = search rules;
+    }
 
 pub loop-k-preserved : goal.loop-k-preserved
 loop-k-preserved g c =

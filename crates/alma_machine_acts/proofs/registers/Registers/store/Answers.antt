@@ -12,13 +12,15 @@ set-requires g c =
 pub returns-in-Err-clause-acts : goal.returns-in-Err-clause-acts
 returns-in-Err-clause-acts g c =
     let s = state_of g.M.MachineMemory.picture c.args.self.now in
-    makes_is _ _ _ _ _ c.end.ensures.made (sym (c.in-Err.ensures s (λ p. number s c.args.from (λ v. store s p.frame p.slot v quiet_step)) refl))
+    makes_is _ _ _ _ _ c.end.ensures.made (sym
+    (c.in-Err.ensures s (λ p. number s c.args.from (λ v. store s p.frame p.slot v quiet_step)) refl))
 
 pub returns-in-Err-number-clause-acts : goal.returns-in-Err-number-clause-acts
 returns-in-Err-number-clause-acts g c =
     let s = state_of g.M.MachineMemory.picture c.args.self.now in
     let p = c.in-Ok.place in
-    makes_is _ _ _ _ _ c.end-in-Err-number.ensures.made (sym (c.in-Ok.ensures.1 s (λ p. number s c.args.from (λ v. store s p.frame p.slot v quiet_step)) refl
+    makes_is _ _ _ _ _ c.end-in-Err-number.ensures.made
+    (sym (c.in-Ok.ensures.1 s (λ p. number s c.args.from (λ v. store s p.frame p.slot v quiet_step)) refl
     ∙ c.in-Err-number.ensures s (λ v. store s p.frame p.slot v quiet_step) refl))
 
 pub returns-in-Ok-number-clause-acts : goal.returns-in-Ok-number-clause-acts
