@@ -104,7 +104,7 @@ module _ (s : Scene) where
       ∙ ap (onward f v) no_dimensions_eq ∙ onward_nothing f v
 
   -- index types
-  index_told : (p : tree.PlainType) → told (types.index_at p (types.read_plain s p)) ≡ told_at (tree.plain_node p)
+  index_told : (p : tree.PlainType) → told (types.index_type_at p (types.read_plain s p)) ≡ told_at (tree.plain_node p)
       (types.index_type_rules (types.read_plain s p).scene) (told (types.read_plain s p))
   index_told p = at_told (tree.plain_node p) (types.index_type_rules (types.read_plain s p).scene) (types.read_plain s p)
 
@@ -112,23 +112,23 @@ module _ (s : Scene) where
       (v' : Option (List ℕ)) (i : Scene)
       → onward f v (told_index (tree.plain_node p) (told (types.read_plain s p))) ≡ a_told f' i v'
       → onward f v (told (types.reading_with types.cons_index
-      (types.reading_then (types.index_at p (types.read_plain s p)) (λ j. types.read_plains j rest)))) ≡ onward f' v'
+      (types.reading_then (types.index_type_at p (types.read_plain s p)) (λ j. types.read_plains j rest)))) ≡ onward f' v'
       (told (types.read_plains i rest))
   index_on f v p rest f' v' i h =
-      let a : Told types.ShapeOrLimit = told (types.index_at p (types.read_plain s p)) in
+      let a : Told types.ShapeOrLimit = told (types.index_type_at p (types.read_plain s p)) in
       ap (λ t. onward f v (told_with types.cons_index t))
-      (then_told (types.index_at p (types.read_plain s p)) (λ j. types.read_plains j rest))
+      (then_told (types.index_type_at p (types.read_plain s p)) (λ j. types.read_plains j rest))
       ∙ onward_cons f v a (told (types.read_plains a.scene rest))
       ∙ ap (λ (t : Told (List ℕ)). onward t.fault t.value (told (types.read_plains t.scene rest)))
       (ap (λ t. onward f v (told_with alone t)) (index_told p) ∙ h)
 
   dimensions_eq : (p : tree.PlainType) (rest : tree.PlainTail) → types.read_dimensions s (tree.dimensions p rest)
-      ≡ types.reading_with types.cons_index (types.reading_then (types.index_at p (types.read_plain s p)) (λ j. types.read_plains j rest))
+      ≡ types.reading_with types.cons_index (types.reading_then (types.index_type_at p (types.read_plain s p)) (λ j. types.read_plains j rest))
   unfolding types.read_type
   dimensions_eq p rest = refl
 
   plains_eq : (p : tree.PlainType) (rest : tree.PlainTail) → types.read_plains s (tree.more_plain p rest)
-      ≡ types.reading_with types.cons_index (types.reading_then (types.index_at p (types.read_plain s p)) (λ j. types.read_plains j rest))
+      ≡ types.reading_with types.cons_index (types.reading_then (types.index_type_at p (types.read_plain s p)) (λ j. types.read_plains j rest))
   unfolding types.read_type
   plains_eq p rest = refl
 

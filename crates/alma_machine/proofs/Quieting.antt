@@ -1,22 +1,21 @@
 -- What stores and equations give that are made at once, or not at all.
 use Rattle.std.proofs.Common.{[], ◌≡◌, ℕ, refl, sym, ap, subst, ◌∙◌}
-use Rattle.std.specs.Prelude.{ℤ, Bool, Option, Result, Ok, Err, IfOk, OnErr, is_ok}
+use Rattle.std.specs.Prelude.{ℤ, Bool, Option, Result, Ok, Err, is_ok}
 use Rattle.alma_base.specs.declared.number.Range.{Range}
 use Rattle.alma_code.specs.declared.step.Step.{Step}
 use Rattle.alma_code.specs.Machine.{State, StepResult, content, store, equation, equation_of_contents, quiet_step}
 use Rattle.alma_machine.specs.Quick.{Quietly}
+use Rattle.alma_machine_acts.specs.Acts.{Acts}
 use Rattle.alma_machine_acts.specs.Rows.{HasNumberIn, GivesContent}
-use Rattle.alma_machine_acts.specs.Steps.{step_result}
 use Rattle.alma_machine_acts.proofs.Words.{store_is}
 
 -- a store that was made is a step with nothing to tell, and one that wanted memory is none
 pub quietly_stored : {E : Type 0} (r : Result Step E) (b : Bool) (old new : State) (f n : ℕ) (v : ℤ) (word : StepResult) → b ≡ is_ok r
-    → HasNumberIn old.now f n → IfOk r (λ a. step_result a [] new ≡ store old f n v quiet_step) → OnErr r (new ≡ old)
-    → store old f n v quiet_step ≡ word → Quietly b old new word
-quietly_stored (Ok a) b old new f n v word made h done none is =
+    → HasNumberIn old.now f n → Acts old new r (store old f n v quiet_step) → store old f n v quiet_step ≡ word → Quietly b old new word
+quietly_stored (Ok a) b old new f n v word made h done is =
     let put = store_is old f n v quiet_step h in
-    subst (λ b. Quietly b old new word) (sym made) (ap (λ (w : StepResult). quiet_step w.state) (done ∙ put) ∙ sym put ∙ is)
-quietly_stored (Err e) b old new f n v word made h done none is = subst (λ b. Quietly b old new word) (sym made) none
+    subst (λ b. Quietly b old new word) (sym made) (ap (λ (w : StepResult). quiet_step w.state) (done.step ∙ put) ∙ sym put ∙ is)
+quietly_stored (Err e) b old new f n v word made h none is = subst (λ b. Quietly b old new word) (sym made) none
 
 -- two cells are equated by what they know
 pub known_equation : (s : State) (f i g j : ℕ) (r t : Option Range) (u v x y : Option ℤ) (k : State → StepResult) → GivesContent s.now f i u

@@ -18,7 +18,6 @@ returns-clause-step c =
     let v = c.args.number in
     let inside : within r v ≡ true = within_is r v (search (rules, ints)) (search (rules, ints)) in
     quietly_stored c.set.result c.is_ok.result s (run_state c.set.new.self) p.frame p.slot (to_z w64 (of_z w64 v))
-    (optional_range_check (Some r) s v (λ _. store s p.frame p.slot v quiet_step)) c.is_ok.ensures.value c.requires c.set.ensures.ok
-    c.set.ensures.refused
+    (optional_range_check (Some r) s v (λ _. store s p.frame p.slot v quiet_step)) c.is_ok.ensures.value c.requires c.set.ensures.acts
     (ap (λ n. store s p.frame p.slot n quiet_step) (to_z-of_z w64 v (search rules))
     ∙ sym (ap (λ b. if_true b (λ _. store s p.frame p.slot v quiet_step) (λ _. ends_in_fault fault.Range s)) inside))

@@ -16,7 +16,7 @@ returns-clause-step c =
     let v = c.in-Ok-number.number in
     quietly_stored c.set.result c.is_ok.result s (run_state c.set.new.self) p.frame p.slot (to_z w64 (of_z w64 v))
     (place s c.args.to (λ p. number s c.args.from (λ v. store s p.frame p.slot v quiet_step))) c.is_ok.ensures.value
-    (one_slot s.now _ p c.in-Ok.ensures.0 c.requires.to.one) c.set.ensures.ok c.set.ensures.refused
+    (one_slot s.now _ p c.in-Ok.ensures.0 c.requires.to.one) c.set.ensures.acts
     (ap (λ n. store s p.frame p.slot n quiet_step) (to_z-of_z w64 v (search rules))
     ∙ sym (c.in-Ok.ensures.1 s (λ p. number s c.args.from (λ v. store s p.frame p.slot v quiet_step)) refl
     ∙ c.in-Ok-number.ensures s (λ v. store s p.frame p.slot v quiet_step) refl))
