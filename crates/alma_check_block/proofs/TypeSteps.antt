@@ -123,12 +123,14 @@ module _ (s : Scene) where
       (ap (λ t. onward f v (told_with alone t)) (index_told p) ∙ h)
 
   dimensions_eq : (p : tree.PlainType) (rest : tree.PlainTail) → types.read_dimensions s (tree.dimensions p rest)
-      ≡ types.reading_with types.cons_index (types.reading_then (types.index_type_at p (types.read_plain s p)) (λ j. types.read_plains j rest))
+      ≡ types.reading_with types.cons_index (types.reading_then (types.index_type_at p (types.read_plain s p))
+      (λ j. types.read_plains j rest))
   unfolding types.read_type
   dimensions_eq p rest = refl
 
   plains_eq : (p : tree.PlainType) (rest : tree.PlainTail) → types.read_plains s (tree.more_plain p rest)
-      ≡ types.reading_with types.cons_index (types.reading_then (types.index_type_at p (types.read_plain s p)) (λ j. types.read_plains j rest))
+      ≡ types.reading_with types.cons_index (types.reading_then (types.index_type_at p (types.read_plain s p))
+      (λ j. types.read_plains j rest))
   unfolding types.read_type
   plains_eq p rest = refl
 

@@ -1,5 +1,5 @@
 -- What stores and equations give that are made at once, or not at all.
-use Rattle.std.proofs.Common.{[], ◌≡◌, ℕ, refl, sym, ap, subst, ◌∙◌}
+use Rattle.std.proofs.Common.{◌≡◌, ℕ, refl, sym, ap, subst, ◌∙◌}
 use Rattle.std.specs.Prelude.{ℤ, Bool, Option, Result, Ok, Err, is_ok}
 use Rattle.alma_base.specs.declared.number.Range.{Range}
 use Rattle.alma_code.specs.declared.step.Step.{Step}
