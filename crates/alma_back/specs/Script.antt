@@ -23,7 +23,7 @@ greatest_count = 1000000
 abbrev pub count_digits : ℕ
 count_digits = 7
 
--- digits, whose value is from 1 on
+-- one to `count_digits` digits, of a value from 1 to `greatest_count`
 abbrev pub is_count : List ℕ → Bool
 is_count text = is_numeral count_digits greatest_count text
 
