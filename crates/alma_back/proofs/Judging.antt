@@ -23,7 +23,7 @@ use Rattle.alma_back.specs.declared.end.BackEnd.{BackEnd}
 use Rattle.alma_back.specs.declared.end.BackEnd.TheVariants.{Walked, BadLine, Refused}
 use Rattle.alma_back.specs.Due.{program, walked_on, walk_plan, judged_by, verify_plan, fetch_plan, bad, with_script, back_plan}
 use Rattle.alma_back.specs.Ends.{back_end}
-use Rattle.alma_back.specs.Inner.{IsUnread, StopsAt}
+use Rattle.alma_back.specs.Inner.{IsUnread, Shows}
 use Rattle.alma_back.specs.Script.{Line, lines_in}
 use Rattle.alma_back.specs.Session.{session}
 
@@ -41,14 +41,13 @@ abbrev pub walk_end : Result (Unit {0}) Stop → BackEnd
 walk_end (Ok done) = Walked
 walk_end (Err stop) = Refused (Stopped stop)
 
-pub goes_walk : (bytes : List ℕ) (out out' : SinkSide) (r : Result (Unit {0}) Stop) → OnOk r (Appends out.written out'.written bytes)
-    → OnErr r (AppendsFront out.written out'.written bytes) → StopsAt out.faults out'.faults r
+pub goes_walk : (bytes : List ℕ) (out out' : SinkSide) (r : Result (Unit {0}) Stop) → Shows out out' bytes r
     → Goes program (IsDue (prints bytes)) out out' (back_end (walk_end r))
-goes_walk bytes out out' (Ok done) ok front stops = whole (prints bytes) refl refl refl (record { bytes_are = ok; quiet = stops })
-goes_walk bytes out out' (Err Write) ok front stops = cut_short (prints bytes) refl refl (record { front = front; risen = stops })
-goes_walk bytes out out' (Err Memory) ok front stops = hungry_within (prints bytes) refl refl front stops
-goes_walk bytes out out' (Err Read) ok front stops = absurd stops
-goes_walk bytes out out' (Err TooLong) ok front stops = absurd stops
+goes_walk bytes out out' (Ok done) h = whole (prints bytes) refl refl refl h
+goes_walk bytes out out' (Err Write) h = cut_short (prints bytes) refl refl h
+goes_walk bytes out out' (Err Memory) h = hungry_within (prints bytes) refl refl h.0 h.1
+goes_walk bytes out out' (Err Read) h = absurd h
+goes_walk bytes out out' (Err TooLong) h = absurd h
 
 -- an end without a print
 silent_end : (end : Ending) (files : FilesSide) (input : SourceSide) (out : SinkSide) → Goes program (IsDue (silent end)) out out end

@@ -2,14 +2,16 @@
 use Rattle.std.proofs.Common.{◌≡◌, ◌<◌, ◌≤◌, ◌+◌, ◌-◌, ◌∙◌, ℕ, zero, suc, List, [], ◌∷◌, ◌++◌, length, get_or, drop, refl, sym, ap, subst}
 use Rattle.std.proofs.Common.{arith, append_assoc}
 use Rattle.std.proofs.lemmas.List.{append-nil, drop_more, drop_all}
-use Rattle.std.specs.Prelude.{true, false}
+use Rattle.std.specs.Prelude.{true, false, Err}
 use Rattle.std.specs.Io.KnownBytes.{Appends}
-use Rattle.alma_io.specs.Fronts.{AppendsFront}
+use Rattle.alma_io.specs.Outside.{Gains}
 use Rattle.alma_io.specs.Sides.{SinkSide}
 use Rattle.alma_io.proofs.Known.{appends_none, appends_trans}
-use Rattle.alma_io.proofs.PartLemmas.{front_after}
+use Rattle.alma_io.proofs.PartLemmas.{front_after, fails_after}
+use Rattle.alma_plan.specs.declared.stop.Stop.{Stop}
+use Rattle.alma_plan.specs.declared.stop.Stop.TheVariants.{Read, Write, Memory, TooLong}
 use Rattle.alma_back.specs.declared.script.Line as read
-use Rattle.alma_back.specs.Inner.{line_of, lines_of}
+use Rattle.alma_back.specs.Inner.{line_of, lines_of, Shows}
 use Rattle.alma_back.specs.Session.{ahead, after_line, line_text, lines_text}
 use Rattle.alma_back.specs.Standing.{Standing, runs}
 use Rattle.alma_back.proofs.Walks.{step_of, no_step}
@@ -51,21 +53,27 @@ shown_next s lines i line d within is =
 
 module _ (old mid new : SinkSide) (all rest text behind : List ℕ) (h : HasShown old mid all rest) (next : rest ≡ text ++ behind) where
   -- it is out
-  pub shown_more : Appends mid.written new.written text → new.faults ≡ mid.faults → HasShown old new all behind
-  shown_more out quiet = record {
+  pub shown_more : Gains mid new text → HasShown old new all behind
+  shown_more g = record {
     done = h.done ++ text;
     all_is = h.all_is ∙ ap (λ z. h.done ++ z) next ∙ sym (append_assoc h.done text behind);
-    out = appends_trans old.written mid.written new.written h.done text h.out out;
-    quiet = quiet ∙ h.quiet;
+    out = appends_trans old.written mid.written new.written h.done text h.out g.bytes_are;
+    quiet = g.quiet ∙ h.quiet;
   }
 
-  -- a front of it is
-  pub shown_front : AppendsFront mid.written new.written text → AppendsFront old.written new.written all
-  shown_front front = front_after _ _ _ _ _ _ _ (h.all_is ∙ ap (λ z. h.done ++ z) next) h.out front
+  -- it stopped within it
+  stopped : (stop : Stop) → Shows mid new text (Err stop) → Shows old new all (Err stop)
+  stopped Write x = fails_after _ _ _ _ _ _ _ (h.all_is ∙ ap (λ z. h.done ++ z) next) h.out h.quiet x
+  stopped Memory x = (front_after _ _ _ _ _ _ _ (h.all_is ∙ ap (λ z. h.done ++ z) next) h.out x.0, x.1 ∙ h.quiet)
+  stopped Read x = absurd x
+  stopped TooLong x = absurd x
+
+  pub shown_stop : (stop same : Stop) → same ≡ stop → Shows mid new text (Err stop) → Shows old new all (Err same)
+  shown_stop stop same is x = subst (λ (s : Stop). Shows old new all (Err s)) (sym is) (stopped stop x)
 
 -- all is out
 pub shown_all : (old new : SinkSide) (all : List ℕ) (s : Standing) (lines : List read.Line) (i : ℕ) → length lines ≤ i
-    → HasShown old new all (lines_text s (lines_of (drop i lines))) → Appends old.written new.written all
+    → HasShown old new all (lines_text s (lines_of (drop i lines))) → Gains old new all
 shown_all old new all s lines i past h =
     let none : all ≡ h.done = h.all_is ∙ ap (λ xs. h.done ++ lines_text s (lines_of xs)) (drop_all i lines past) ∙ append-nil h.done in
-    subst (λ (bytes : List ℕ). Appends old.written new.written bytes) (sym none) h.out
+    record { bytes_are = subst (λ (bytes : List ℕ). Appends old.written new.written bytes) (sym none) h.out; quiet = h.quiet }

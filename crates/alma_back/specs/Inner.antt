@@ -1,6 +1,8 @@
 -- Of contracts between the functions of this crate.
 use Rattle.std.specs.Prelude.{◌≡◌, ◌≤◌, List, ℕ, [], ◌∷◌, map, Result, Ok, Err}
-use Rattle.alma_io.specs.Outside.{HasRisen}
+use Rattle.alma_io.specs.Fronts.{AppendsFront}
+use Rattle.alma_io.specs.Outside.{Gains, FailsWithin}
+use Rattle.alma_io.specs.Sides.{SinkSide}
 use Rattle.alma_plan.specs.declared.refusal.Refusal.TheVariants.{Stopped}
 use Rattle.alma_plan.specs.declared.stop.Stop.{Stop}
 use Rattle.alma_plan.specs.declared.stop.Stop.TheVariants.{Read, Write, Memory, TooLong}
@@ -45,10 +47,10 @@ IsUnread script (Refused refusal) = refusal ≡ Stopped Memory
 
 -- ---- stops
 
--- what stopped a call that only writes, by the faults of its sink before and now: one of these, or want of memory
-abbrev pub StopsAt : (before now : ℕ) → Result (Unit {0}) Stop → Type 0
-StopsAt before now (Ok done) = now ≡ before
-StopsAt before now (Err Write) = HasRisen before now
-StopsAt before now (Err Memory) = now ≡ before
-StopsAt before now (Err Read) = ⊥
-StopsAt before now (Err TooLong) = ⊥
+-- what a call that shows these bytes comes to: the sink gained them, failed within them, or holds a front of them where memory ran out
+abbrev pub Shows : SinkSide → SinkSide → (bytes : List ℕ) → Result (Unit {0}) Stop → Type 0
+Shows old new bytes (Ok _) = Gains old new bytes
+Shows old new bytes (Err Write) = FailsWithin old new bytes
+Shows old new bytes (Err Memory) = AppendsFront old.written new.written bytes × (new.faults ≡ old.faults)
+Shows old new bytes (Err Read) = ⊥
+Shows old new bytes (Err TooLong) = ⊥

@@ -1,8 +1,6 @@
 // What the lines of a script show.
-ghost use Rattle.std.specs.Prelude.{◌≡◌, ◌≤◌, ◌<◌, ◌+◌, ◌*◌, length, All, OnOk, OnErr};
-ghost use Rattle.std.specs.Io.KnownBytes.{Appends};
-ghost use Rattle.alma_io.specs.Fronts.{AppendsFront};
-ghost use Rattle.alma_back.specs.Inner.{line_of, lines_of, IsShort, StopsAt};
+ghost use Rattle.std.specs.Prelude.{◌≡◌, ◌≤◌, ◌<◌, ◌+◌, ◌*◌, length, All, OnOk};
+ghost use Rattle.alma_back.specs.Inner.{line_of, lines_of, IsShort, Shows};
 ghost use Rattle.alma_back.specs.Script.{greatest_count};
 ghost use Rattle.alma_back.specs.Session.{ahead, behind, after_line, line_text, lines_text, value_text};
 ghost use Rattle.alma_back.specs.Standing.{step_limit};
@@ -91,11 +89,8 @@ fn show_line<O: Sink>(
     requires few { back.old.steps + greatest_count < step_limit }
     ensures stands { OnOk result (back.new ≡ after_line back.old (line_of line.entry)) }
     ensures few { OnOk result (back.new.steps ≤ back.old.steps + greatest_count) }
-    ensures ok { OnOk result (Appends (O.side out.old).written (O.side out.new).written
-        (line_text (after_line back.old (line_of line.entry)) (line_of line.entry))) }
-    ensures front { OnErr result (AppendsFront (O.side out.old).written (O.side out.new).written
-        (line_text (after_line back.old (line_of line.entry)) (line_of line.entry))) }
-    ensures cause { StopsAt (O.side out.old).faults (O.side out.new).faults result }
+    ensures shows { Shows (O.side out.old) (O.side out.new)
+        (line_text (after_line back.old (line_of line.entry)) (line_of line.entry)) result }
 {
     go(back, line)?;
     put_line(text, back, line)?;
@@ -113,11 +108,7 @@ pub fn show_lines<O: Sink>(
     requires short { All IsShort lines.now }
     requires fresh { back.old.steps ≡ 0 }
     requires few { length lines.now * greatest_count < step_limit }
-    ensures ok { OnOk result (Appends (O.side out.old).written (O.side out.new).written
-        (lines_text back.old (lines_of lines.now))) }
-    ensures front { OnErr result (AppendsFront (O.side out.old).written (O.side out.new).written
-        (lines_text back.old (lines_of lines.now))) }
-    ensures cause { StopsAt (O.side out.old).faults (O.side out.new).faults result }
+    ensures { Shows (O.side out.old) (O.side out.new) (lines_text back.old (lines_of lines.now)) result }
 {
     let mut text = Vec::new(alloc);
     for line in lines {

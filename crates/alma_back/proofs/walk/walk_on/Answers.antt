@@ -15,13 +15,11 @@ returns-in-Ok-show_lines g c =
     subst (λ (s : Standing). Goes program (IsDue (prints (lines_text s (lines_of c.args.lines.now)))) (g.O.Sink.side c.args.out.now)
     (g.O.Sink.side c.show_lines.new.out) (back_end (walk_end (Ok tt))))
     c.in-Ok.ensures
-    (goes_walk (lines_text c.in-Ok.back (lines_of c.args.lines.now)) _ _
-    (Ok tt) c.in-Ok-show_lines.ensures.ok tt c.in-Ok-show_lines.ensures.cause)
+    (goes_walk (lines_text c.in-Ok.back (lines_of c.args.lines.now)) _ _ (Ok tt) c.in-Ok-show_lines.ensures)
 
 pub returns-in-Ok : goal.returns-in-Ok
 returns-in-Ok g c =
     let end = back_end (walk_end (Err c.in-Err-show_lines.stop)) in
     subst (λ (s : Standing). Goes program (IsDue (prints (lines_text s (lines_of c.args.lines.now)))) (g.O.Sink.side c.args.out.now)
     (g.O.Sink.side c.show_lines.new.out) end) c.in-Ok.ensures
-    (goes_walk (lines_text c.in-Ok.back (lines_of c.args.lines.now)) _ _
-    (Err c.in-Err-show_lines.stop) tt c.in-Err-show_lines.ensures.front c.in-Err-show_lines.ensures.cause)
+    (goes_walk (lines_text c.in-Ok.back (lines_of c.args.lines.now)) _ _ (Err c.in-Err-show_lines.stop) c.in-Err-show_lines.ensures)
