@@ -172,8 +172,8 @@ impl<'b, 'i> Back<'b, 'i> {
     /// A run at its start. The input has at most 16,777,216 bytes.
     pub fn new(alloc: Global, code: Verified<'b>, input: &'i [u8]) -> Result<Back<'b, 'i>, NoMemory>
         requires { length input.now ≤ input_limit }
-        ensures { IfOk result (λ back. back
-            ≡ standing_at_start (code_of_verified code.entry) input.now) }
+        ensures { IfOk result
+            (λ back. back ≡ standing_at_start (code_of_verified code.entry) input.now) }
     {
         let memory = first_memory(alloc, &code)?;
         let registers = Registers {

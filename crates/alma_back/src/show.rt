@@ -108,7 +108,8 @@ pub fn show_lines<O: Sink>(
     requires short { All IsShort lines.now }
     requires fresh { back.old.steps ≡ 0 }
     requires few { length lines.now * greatest_count < step_limit }
-    ensures { Shows (O.side out.old) (O.side out.new) (lines_text back.old (lines_of lines.now)) result }
+    ensures { Shows (O.side out.old) (O.side out.new)
+        (lines_text back.old (lines_of lines.now)) result }
 {
     let mut text = Vec::new(alloc);
     for line in lines {

@@ -102,8 +102,8 @@ fn walk_object<I: Source, O: Sink>(
     requires short { All IsShort lines.now }
     requires few { length lines.now * greatest_count < step_limit }
     ensures { (files : FilesSide) → Follows plain program
-        (walk_plan (object_refusal program object.now) (object_code object.now)
-        (lines_of lines.now))
+        (walk_plan (object_refusal program object.now)
+        (object_code object.now) (lines_of lines.now))
         files files (I.side input.old) (I.side input.new) (O.side out.old) (O.side out.new)
         (back_end result) }
 {
