@@ -30,8 +30,8 @@ pub fn a_run_is_what_its_program_means()
 
 /// What a trace of a program comes to ends as the meaning does on the input that is read; or its steps ran out.
 pub fn a_trace_ends_as_its_program_means()
-    ensures ends { (left : Option (List ℕ)) (p : Program) (steps : ℕ) (names : List (List ℕ))
-        (due : Due)
+    ensures ends { (left : Option (List ℕ)) (p : Program) (steps : ℕ)
+        (names : List (List ℕ)) (due : Due)
         → ProgramOutcome left p steps (Traces names) due → TraceMeant left p steps due }
 {}
 

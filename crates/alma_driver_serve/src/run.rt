@@ -31,8 +31,8 @@ pub fn run_code<I: Source, O: Sink>(
     requires counts { KeepsCounts (code_of code.now) }
     requires records { KeepsRecords (code_of code.now) }
     requires few { steps ≤ greatest_steps }
-    ensures { Runs (InputOutcome (I.side input.old).left (code_of code.now) steps
-        (shown_of showing.entry))
+    ensures { Runs
+        (InputOutcome (I.side input.old).left (code_of code.now) steps (shown_of showing.entry))
         (I.side input.old) (I.side input.new) (O.side out.old) (O.side out.new) result }
 {
     match encode(alloc, code) {

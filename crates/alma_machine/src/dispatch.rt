@@ -63,8 +63,8 @@ pub fn act<M: MachineMemory, V: CodeView>(
     requires lawful { length input.now ≤ input_limit }
     requires empty { bytes.old.items ≡ [] }
     ensures acts { ActsWith (state_of M.picture registers.old) (state_of M.picture registers.new)
-        bytes.new.items result (act (V.code view.now) input.now instr
-        (state_of M.picture registers.old)) }
+        bytes.new.items result
+        (act (V.code view.now) input.now instr (state_of M.picture registers.old)) }
     ensures past { (M.picture registers.new.memory).past ≡ (M.picture registers.old.memory).past }
 {
     match instr {

@@ -69,8 +69,8 @@ fn enter<M: MachineMemory, H: Head>(
         (λ routine. IsLive (M.picture registers.old.memory).now) (H.head head.now).params
         registers.old.args.items }
     ensures acts { Acts (state_of M.picture registers.old) (state_of M.picture registers.new) result
-        (enters_routine (state_of M.picture registers.old) routine start (H.head head.now)
-        registers.old.args.items) }
+        (enters_routine (state_of M.picture registers.old) routine start
+        (H.head head.now) registers.old.args.items) }
     ensures past { (M.picture registers.new.memory).past ≡ (M.picture registers.old.memory).past }
 {
     match registers
@@ -137,8 +137,9 @@ pub fn leave_with<M: MachineMemory, V: CodeView>(
     requires back { CallsBack (V.code view.now) (M.picture registers.old.memory).now }
     ensures acts { let s = state_of M.picture registers.old in
         Acts s (state_of M.picture registers.new) result
-        (number s value (λ v. result_to
-        (slice_get (V.code view.now).instrs ((last_frame s.now).back - 1)) (state_after_leave s) v)) }
+        (number s value
+        (λ v. result_to (slice_get (V.code view.now).instrs ((last_frame s.now).back - 1))
+        (state_after_leave s) v)) }
     ensures past { (M.picture registers.new.memory).past ≡ (M.picture registers.old.memory).past }
 {
     let number = registers.number(value);
@@ -155,7 +156,8 @@ fn give_back<M: MachineMemory, V: CodeView>(
     requires { CallsBack (V.code view.now) (M.picture registers.old.memory).now }
     ensures acts { let s = state_of M.picture registers.old in
         Acts s (state_of M.picture registers.new) result
-        (back_or_fault (slice_get (V.code view.now).instrs ((last_frame s.now).back - 1)) s number) }
+        (back_or_fault
+        (slice_get (V.code view.now).instrs ((last_frame s.now).back - 1)) s number) }
     ensures past { (M.picture registers.new.memory).past ≡ (M.picture registers.old.memory).past }
 {
     let number = match number {

@@ -84,8 +84,8 @@ pub fn copy_cells<M: MachineMemory>(
         ≡ width (M.picture registers.old.memory).now from }
     ensures acts { let s = state_of M.picture registers.old in
         Acts s (state_of M.picture registers.new) result
-        (place s to (λ p. place s from (λ q. copies_cells p.len s.now s p.frame p.slot q.frame
-        q.slot))) }
+        (place s to (λ p. place s from
+        (λ q. copies_cells p.len s.now s p.frame p.slot q.frame q.slot))) }
     ensures past { (M.picture registers.new.memory).past ≡ (M.picture registers.old.memory).past }
 {
     let to = match registers.place(to) {

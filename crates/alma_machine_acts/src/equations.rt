@@ -137,7 +137,8 @@ impl<M: MachineMemory> Registers<M> {
         requires right { HasOneCell (M.picture self.old.memory).now right }
         ensures acts { let s = state_of M.picture self.old in
             Acts s (state_of M.picture self.new) result
-            (place s left (λ p. place s right (λ q. equation s p.frame p.slot (Some left_range)
+            (place s left (λ p. place s right
+            (λ q. equation s p.frame p.slot (Some left_range)
             q.frame q.slot (Some right_range) quiet_step))) }
         ensures past { (M.picture self.new.memory).past ≡ (M.picture self.old.memory).past }
     {
@@ -170,8 +171,8 @@ impl<M: MachineMemory> Registers<M> {
         requires right { AreNumbers (M.picture self.old.memory).now right.frame right.slot count }
         requires room { count ≤ (M.picture self.old.memory).trail_room }
         ensures made { Makes (state_of M.picture self.old) (state_of M.picture self.new) result
-            (equations count (state_of M.picture self.old) left.frame left.slot right.frame
-            right.slot) }
+            (equations count (state_of M.picture self.old)
+            left.frame left.slot right.frame right.slot) }
         ensures past { (M.picture self.new.memory).past ≡ (M.picture self.old.memory).past }
     {
         for k in 0..count {

@@ -92,8 +92,8 @@ pub fn print_character<M: MachineMemory>(
     requires empty { bytes.old.items ≡ [] }
     ensures acts { let s = state_of M.picture registers.old in
         ActsWith s (state_of M.picture registers.new) bytes.new.items result
-        (number s value (λ v. prints_bytes
-        (value_text (kind.Char (nat_abs (int_rem_euclid v (pos 256))))) s)) }
+        (number s value
+        (λ v. prints_bytes (value_text (kind.Char (nat_abs (int_rem_euclid v (pos 256))))) s)) }
     ensures past { (M.picture registers.new.memory).past ≡ (M.picture registers.old.memory).past }
 {
     match registers.number(value) {

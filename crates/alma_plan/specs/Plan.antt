@@ -1,5 +1,5 @@
 -- Plans: what a program reads, in which order, and what it comes to. A program's plan is a function of its words.
-use Rattle.std.specs.Prelude.{◌≡◌, ◌≤◌, ◌⊎◌, List, ℕ, [], ◌++◌, codes, decimal, length, Option, None, Some}
+use Rattle.std.specs.Prelude.{◌≡◌, ◌≤◌, ◌⊎◌, List, ℕ, [], ◌++◌, codes, decimal, length, Option, None}
 use Rattle.alma_base.specs.Limits.{input_limit}
 use Rattle.alma_io.specs.Files.{Told, Missing, Has, MayHave, MayPass}
 use Rattle.alma_io.specs.Outside.{StoredFile, MayBeLeft}

@@ -1,5 +1,5 @@
 -- What programs come to that are read from files: plans of sources, of runs, and of objects.
-use Rattle.std.specs.Prelude.{◌≡◌, ℕ, ◌++◌, List, [], Bool, true, false, ltb, codes, decimal, Option, None, Some}
+use Rattle.std.specs.Prelude.{◌≡◌, ℕ, ◌++◌, List, [], Bool, true, false, ltb, codes, decimal, None, Some}
 use Rattle.alma_base.specs.Fault.{run_fault_text}
 use Rattle.alma_base.specs.Limits.{source_limit, size_limit}
 use Rattle.alma_base.specs.declared.place.Place.{Place}

@@ -78,8 +78,7 @@ fn run_verified<I: Source, O: Sink>(
     ensures { (p : tree.Program) → IsCodeFor p (code_of_verified code.entry)
         → (program : List ℕ) (failed : Ending) (files : FilesSide)
         → Follows (sense program failed) program (run_on_input (program_reads p) p steps)
-        files files
-        (I.side input.old) (I.side input.new) (O.side out.old) (O.side out.new)
+        files files (I.side input.old) (I.side input.new) (O.side out.old) (O.side out.new)
         (program_end program failed result) }
 {
     if !code.view().has_read() {
@@ -107,8 +106,7 @@ fn run_code<I: Source, O: Sink>(
     ensures { (p : tree.Program) → IsCodeFor p (code_of code.now)
         → (program : List ℕ) (failed : Ending) (files : FilesSide)
         → Follows (sense program failed) program (run_on_input (program_reads p) p steps)
-        files files
-        (I.side input.old) (I.side input.new) (O.side out.old) (O.side out.new)
+        files files (I.side input.old) (I.side input.new) (O.side out.old) (O.side out.new)
         (program_end program failed result) }
 {
     match encode(alloc, code) {
@@ -133,8 +131,7 @@ pub fn run_program<I: Source, O: Sink>(
     requires few { steps ≤ 2 ^ 62 }
     ensures { (name : List ℕ) (failed : Ending) (files : FilesSide)
         → Follows (sense name failed) name (run_plan name (program_of program.now) steps)
-        files files
-        (I.side input.old) (I.side input.new) (O.side out.old) (O.side out.new)
+        files files (I.side input.old) (I.side input.new) (O.side out.old) (O.side out.new)
         (program_end name failed result) }
 {
     match lower(alloc, program) {

@@ -50,8 +50,7 @@ fn tell_steps_out<E: Sink>(err: &mut E, program: &[u8]) -> Status
 // Says the size of a program that is too large.
 fn tell_size<E: Sink>(err: &mut E, program: &[u8], size: u64) -> Status
     ensures { Reports (tells program.now 11 (codes "too much code " ++ decimal size))
-        (E.side err.old)
-        (E.side err.new) result.0 }
+        (E.side err.old) (E.side err.new) result.0 }
 {
     let mut digits = Buffer::new();
     let front = b": too much code ".as_slice();
@@ -102,8 +101,8 @@ fn tell_refusal_named<'t, E: Sink>(
 
 /// Says on err for which fault a file is refused, and where: status 3, or that of a write fault where err fails.
 pub fn tell_refusal<E: Sink>(err: &mut E, file: &[u8], fault: SourceFault, place: Place) -> Status
-    ensures { Reports (refuse_source file.now fault place) (E.side err.old) (E.side err.new)
-        result.0 }
+    ensures { Reports (refuse_source file.now fault place)
+        (E.side err.old) (E.side err.new) result.0 }
 {
     tell_refusal_named(err, file, fault.text().as_bytes(), place)
 }

@@ -153,9 +153,9 @@ pub fn judge<I: Source, O: Sink>(
 ) -> PoolEnd
     requires { length turns.now ≤ turns_limit }
     ensures { (files : FilesSide) → Follows plain program
-        (verify_plan turns.now (all_bytes objects.now)) files files (I.side input.old)
-        (I.side input.new)
-        (O.side out.old) (O.side out.new) (pool_end result) }
+        (verify_plan turns.now (all_bytes objects.now)) files files
+        (I.side input.old) (I.side input.new) (O.side out.old) (O.side out.new)
+        (pool_end result) }
 {
     match bad_turn(objects.len(), turns) {
         Some(turn) => PoolEnd::BadTurn(turn),

@@ -215,8 +215,8 @@ const KINDS: [Run; 5] = [
 
 // A module body with nine number slots, and place slots for one, four and two cells.
 fn small_routines(alloc: Global, code_end: u32) -> Result<Vec<RoutineHead>, NoMemory>
-    ensures { IfOk result (λ routines. map routine_of routines.items
-        ≡ small_routine code_end ∷ []) }
+    ensures { IfOk result
+        (λ routines. map routine_of routines.items ≡ small_routine code_end ∷ []) }
 {
     let kinds = Vec::from_slice(alloc, &KINDS)?;
     let name = Vec::from_slice(alloc, b"A")?;

@@ -1,4 +1,4 @@
-use Rattle.std.proofs.Common.{[], ap, sym, ◌∙◌}
+use Rattle.std.proofs.Common.{ap, sym, ◌∙◌}
 use Rattle.alma_code.specs.Machine.{act, arguments, enters_routine}
 use Rattle.alma_machine_acts.specs.Rows.{state_of}
 use Rattle.alma_machine.proofs.Acting.{call_is}

@@ -1,4 +1,4 @@
-use Rattle.std.proofs.Common.{◌-◌, [], refl, sym}
+use Rattle.std.proofs.Common.{◌-◌, refl, sym}
 use Rattle.std.specs.Prelude.{slice_get}
 use Rattle.alma_code.specs.Machine.{number, result_to, state_after_leave}
 use Rattle.alma_code.specs.Picture.{last_frame}

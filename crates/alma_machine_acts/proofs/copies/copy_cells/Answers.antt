@@ -1,4 +1,4 @@
-use Rattle.std.proofs.Common.{[], sym, ◌∙◌, refl}
+use Rattle.std.proofs.Common.{sym, ◌∙◌, refl}
 use Rattle.alma_code.specs.Machine.{place, copies_cells}
 use Rattle.alma_machine_acts.specs.Rows.{state_of}
 use Rattle.alma_machine_acts.proofs.Words.{acts_is}

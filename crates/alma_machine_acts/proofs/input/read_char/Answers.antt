@@ -1,4 +1,4 @@
-use Rattle.std.proofs.Common.{◌∙◌, [], refl, sym}
+use Rattle.std.proofs.Common.{◌∙◌, refl, sym}
 use Rattle.std.specs.Prelude.{slice_get}
 use Rattle.alma_code.specs.Machine.{position, byte_or_failure, takes_read}
 use Rattle.alma_machine_acts.specs.Rows.{state_of}

@@ -1,4 +1,4 @@
-use Rattle.std.proofs.Common.{◌∙◌, [], refl, sym, ap}
+use Rattle.std.proofs.Common.{◌∙◌, refl, sym, ap}
 use Rattle.alma_base.specs.Reading.{number_from}
 use Rattle.alma_code.specs.Machine.{position, takes_read}
 use Rattle.alma_machine_acts.specs.Rows.{state_of}

@@ -1,7 +1,7 @@
 use Rattle.std.proofs.Common.{rules, [], ◌≡◌, ◌+◌, ◌++◌, List, ℕ, ap, sym, ◌∙◌, subst, arith, true, false}
 use Rattle.std.specs.Prelude.{is_err}
 use Rattle.std.specs.Io.KnownBytes.{Appends}
-use Rattle.alma_io.proofs.PartLemmas.{gains_of, fails_of, risen_after}
+use Rattle.alma_io.proofs.PartLemmas.{gains_of, fails_of}
 use Rattle.alma_code.specs.Machine.{State, after, prints}
 use Rattle.alma_machine.specs.Runs.{run_end_of, made}
 use Rattle.alma_machine.specs.View.{run_state, MachineView}

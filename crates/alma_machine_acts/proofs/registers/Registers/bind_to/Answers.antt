@@ -1,4 +1,4 @@
-use Rattle.std.proofs.Common.{rules, [], refl, sym, ap, ◌≡◌, ◌∙◌, w64, to_z, of_z}
+use Rattle.std.proofs.Common.{rules, refl, sym, ap, ◌≡◌, ◌∙◌, w64, to_z, of_z}
 use Rattle.std.specs.Prelude.{true, false}
 use Rattle.std.proofs.lemmas.Int.{ints, to_z-of_z}
 use Rattle.alma_base.specs.Choice.{if_true}

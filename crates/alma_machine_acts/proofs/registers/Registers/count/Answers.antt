@@ -1,4 +1,4 @@
-use Rattle.std.proofs.Common.{rules, [], refl, sym, ap, ◌∙◌, w64, to_z, of_z}
+use Rattle.std.proofs.Common.{rules, refl, sym, ap, ◌∙◌, w64, to_z, of_z}
 use Rattle.std.proofs.lemmas.Int.{to_z-of_z}
 use Rattle.std.specs.Prelude.{Ok}
 use Rattle.alma_code.specs.Machine.{goes_to, put_number}

@@ -1,4 +1,4 @@
-use Rattle.std.proofs.Common.{rules, ◌∙◌, refl, sym}
+use Rattle.std.proofs.Common.{rules, refl, sym}
 use Rattle.alma_code.specs.Machine.{quiet_step}
 use Rattle.alma_machine_acts.specs.Rows.{state_of}
 use Rattle.alma_machine_acts.proofs.Words.{makes_is}
