@@ -1,6 +1,8 @@
 -- What the code's frame of a routine shows of the frame that the rules speak of.
 use Rattle.std.specs.Global.{Global}
-use Rattle.std.specs.Prelude.{ℕ, List, Option, option_map, map, Vec}
+use Rattle.std.specs.HashMap.{HashMap}
+use Rattle.std.specs.Prelude.{◌≡◌, ℕ, List, Option, option_map, map, Result, OnOk, Vec}
+use Rattle.alma_base.specs.declared.fault.NoMemory.{NoMemory}
 use Rattle.alma_base.specs.Choice.{if_true}
 use Rattle.alma_tree.specs.declared.leaf.Mode.{Mode}
 use Rattle.alma_ir.specs.declared.program.Param.{Param}
@@ -13,7 +15,7 @@ use Rattle.alma_rules.specs.Answers.{first}
 use Rattle.alma_rules.specs.Types.{redeclaration_rules}
 use Rattle.alma_rules.specs.Decls as rules
 use Rattle.alma_check_rules.specs.declared.env.Formal.{Formal}
-use Rattle.alma_check_rules.specs.Views.{formal_view}
+use Rattle.alma_check_rules.specs.Views.{declares_view, formal_view}
 use Rattle.alma_check_type.specs.Told.{fault_of}
 use Rattle.alma_check_block.specs.declared.frame.Frame.{Frame}
 
@@ -56,6 +58,16 @@ frame_with_scene s x = record {
   formals = formals_view x.formals.items;
   variables = map global_of x.variables.items;
 }
+
+-- at Ok the code's frame has gone from what tells of f to what tells of go f, for each frame f of the rules
+abbrev pub Follows : {T : Type 0} → (before : Scene) → (old : Frame) → (behind : Scene) → (new : Frame) → Result T NoMemory
+    → (go : rules.Frame → rules.Frame) → Type 0
+Follows before old behind new result go =
+    (f : rules.Frame) → frame_with_scene before old ≡ told_frame f → OnOk result (frame_with_scene behind new ≡ told_frame (go f))
+
+-- at Ok the names of a block, each once with the token of its first declaration, have got these
+abbrev pub Collects : {S : Type 0} → Result (Unit {0}) NoMemory → Scene → (old new : HashMap (Vec ℕ Global) ℕ S) → List tree.Name → Type 0
+Collects result s old new names = OnOk result (declares_view new ≡ rules.texts_behind s (declares_view old) names)
 
 -- a parameter whose type is not Bad, apart from its formal
 abbrev pub param_shaped : rules.Frame → (from : ℕ) → Option Mode → (shape : ℕ) → tree.Name → rules.Frame

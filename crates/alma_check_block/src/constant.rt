@@ -32,8 +32,9 @@ pub fn read_constant(
     reader: &Reader,
     expr: &Expr,
 ) -> Result<Reading<Bound>, NoMemory>
-    ensures { IfOk result (λ r. told (types.reading_with bound_of
-        (types.read_constant reader.now (view_expr expr.now))) ≡ tells r reader.now) }
+    ensures { IfOk result (λ r.
+        told (types.reading_with bound_of (types.read_constant reader.now (view_expr expr.now)))
+        ≡ tells r reader.now) }
 {
     let place = Place {
         constant: true,
@@ -61,10 +62,12 @@ pub fn read_subrange(
     low: &Expr,
     high: &Expr,
 ) -> Result<Reading<ShapeOrLimit>, NoMemory>
-    ensures { IfOk result (λ r. told (types.reading_change types.subrange_of (types.reading_at node
-        (types.subrange_rules reader.old) (types.reading_then
-        (types.read_constant reader.old (view_expr low.now))
-        (λ i. types.read_constant i (view_expr high.now))))) ≡ tells_of formed_of r reader.new) }
+    ensures { IfOk result (λ r.
+        told (types.reading_change types.subrange_of
+        (types.reading_at node (types.subrange_rules reader.old)
+        (types.reading_then (types.read_constant reader.old (view_expr low.now))
+        (λ i. types.read_constant i (view_expr high.now)))))
+        ≡ tells_of formed_of r reader.new) }
 {
     let low = read_constant(alloc, reader, low)?;
     let high = read_constant(alloc, reader, high)?;

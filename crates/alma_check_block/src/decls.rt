@@ -1,8 +1,7 @@
 // All declarations of a block, in order; of procedures only the headings.
-ghost use Rattle.std.specs.Prelude.{◌≡◌, OnOk};
 ghost use Rattle.alma_rules.specs.Decls as rules;
 ghost use Rattle.alma_rules.specs.View as view;
-ghost use Rattle.alma_check_block.specs.Shown.{frame_with_scene, told_frame};
+ghost use Rattle.alma_check_block.specs.Shown.{Follows};
 
 use crate::entry::{read_consts, read_types};
 use crate::frame::Frame;
@@ -21,9 +20,8 @@ fn read_decl(
     number: u32,
     decl: &Decl,
 ) -> Result<(), NoMemory>
-    ensures { (f : rules.Frame) → frame_with_scene reader.old frame.old ≡ told_frame f
-        → OnOk result (frame_with_scene reader.new frame.new ≡ told_frame (rules.read_decl f number
-        (view.view_decl decl.now))) }
+    ensures { Follows reader.old frame.old reader.new frame.new result
+        (λ f. rules.read_decl f number (view.view_decl decl.now)) }
 {
     match decl {
         Decl::Const { node: _, entries } => read_consts(alloc, reader, frame, entries),
@@ -56,9 +54,8 @@ pub fn read_decls(
     first: u32,
     decls: &[Decl],
 ) -> Result<(), NoMemory>
-    ensures { (f : rules.Frame) → frame_with_scene reader.old frame.old ≡ told_frame f
-        → OnOk result (frame_with_scene reader.new frame.new ≡ told_frame (rules.read_decls f first
-        (view.decls_of decls.now))) }
+    ensures { Follows reader.old frame.old reader.new frame.new result
+        (λ f. rules.read_decls f first (view.decls_of decls.now)) }
 {
     let mut next = first;
     for decl in decls {

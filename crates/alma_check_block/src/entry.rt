@@ -8,7 +8,7 @@ ghost use Rattle.alma_rules.specs.Types as types;
 ghost use Rattle.alma_rules.specs.Decls as rules;
 ghost use Rattle.alma_rules.specs.View as view;
 ghost use Rattle.alma_check_type.specs.Told.{fault_of, bound_of};
-ghost use Rattle.alma_check_block.specs.Shown.{frame_with_scene, told_frame};
+ghost use Rattle.alma_check_block.specs.Shown.{Follows, frame_with_scene, told_frame};
 
 use crate::constant::read_constant;
 use crate::frame::Frame;
@@ -30,11 +30,10 @@ pub fn enter_name(
     fault: Option<BrokenRule>,
     entry: Entry,
 ) -> Result<(), NoMemory>
-    ensures { (f : rules.Frame) (faults : List RuleBroken) → frame_with_scene f.scene frame.old
-        ≡ told_frame f
-        → fault_of fault ≡ first faults
-        → OnOk result (frame_with_scene reader.new frame.new ≡ told_frame
-        (rules.enter f (view.view_name name.now) from faults reader.old entry)) }
+    ensures { (f : rules.Frame) (faults : List RuleBroken)
+        → frame_with_scene f.scene frame.old ≡ told_frame f → fault_of fault ≡ first faults
+        → OnOk result (frame_with_scene reader.new frame.new
+        ≡ told_frame (rules.enter f (view.view_name name.now) from faults reader.old entry)) }
 {
     let twice = redeclared(reader, name);
     reader.declare(alloc, name, from, entry)?;
@@ -77,8 +76,8 @@ fn behind_expr(alloc: Global, token: u32, expr: &Expr) -> Result<u32, NoMemory>
 
 /// The token behind a type that begins two tokens behind this one, and the semicolon there.
 pub fn behind_type(alloc: Global, token: u32, tree: &TypeNode) -> Result<u32, NoMemory>
-    ensures { IfOk result (λ n. n ≡ token + 3 + width (mark_type
-        (view.view_type_node tree.now))) }
+    ensures { IfOk result (λ n.
+        n ≡ token + 3 + width (mark_type (view.view_type_node tree.now))) }
 {
     let width = width_of_type(alloc, tree)?;
     let start = token.checked_add(3).ok_or(NoMemory)?;
@@ -91,10 +90,9 @@ fn read_const(
     frame: &mut Frame,
     entry: &ConstEntry,
 ) -> Result<(), NoMemory>
-    ensures { (f : rules.Frame) → frame_with_scene reader.old frame.old ≡ told_frame f
-        → OnOk result (frame_with_scene reader.new frame.new ≡ told_frame (rules.constant_in f
-        (view.view_const entry.now) (types.read_constant f.scene
-        (view.view_expr entry.now.value)))) }
+    ensures { Follows reader.old frame.old reader.new frame.new result
+        (λ f. rules.constant_in f (view.view_const entry.now)
+        (types.read_constant f.scene (view.view_expr entry.now.value))) }
 {
     let from = behind_expr(alloc, entry.name.token, &entry.value)?;
     let reading = read_constant(alloc, reader, &entry.value)?;
@@ -117,9 +115,8 @@ pub fn read_consts(
     frame: &mut Frame,
     entries: &[ConstEntry],
 ) -> Result<(), NoMemory>
-    ensures { (f : rules.Frame) → frame_with_scene reader.old frame.old ≡ told_frame f
-        → OnOk result (frame_with_scene reader.new frame.new ≡ told_frame (rules.read_consts f
-        (view.consts_of entries.now))) }
+    ensures { Follows reader.old frame.old reader.new frame.new result
+        (λ f. rules.read_consts f (view.consts_of entries.now)) }
 {
     for entry in entries {
         read_const(alloc, reader, frame, entry)?;
@@ -133,10 +130,9 @@ fn read_type_entry(
     frame: &mut Frame,
     entry: &TypeEntry,
 ) -> Result<(), NoMemory>
-    ensures { (f : rules.Frame) → frame_with_scene reader.old frame.old ≡ told_frame f
-        → OnOk result (frame_with_scene reader.new frame.new ≡ told_frame (rules.type_in f
-        (view.view_type_entry entry.now) (types.read_type f.scene
-        (view.view_type_node entry.now.type_node)))) }
+    ensures { Follows reader.old frame.old reader.new frame.new result
+        (λ f. rules.type_in f (view.view_type_entry entry.now)
+        (types.read_type f.scene (view.view_type_node entry.now.type_node))) }
 {
     let from = behind_type(alloc, entry.name.token, &entry.type_node)?;
     let reading = read_type(alloc, reader, &entry.type_node)?;
@@ -159,9 +155,8 @@ pub fn read_types(
     frame: &mut Frame,
     entries: &[TypeEntry],
 ) -> Result<(), NoMemory>
-    ensures { (f : rules.Frame) → frame_with_scene reader.old frame.old ≡ told_frame f
-        → OnOk result (frame_with_scene reader.new frame.new ≡ told_frame (rules.read_types f
-        (view.types_of entries.now))) }
+    ensures { Follows reader.old frame.old reader.new frame.new result
+        (λ f. rules.read_types f (view.types_of entries.now)) }
 {
     for entry in entries {
         read_type_entry(alloc, reader, frame, entry)?;

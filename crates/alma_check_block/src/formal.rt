@@ -1,11 +1,11 @@
 // Parameters.
-ghost use Rattle.std.specs.Prelude.{◌≡◌, ◌+◌, ◌≤◌, Some, None, OnOk};
+ghost use Rattle.std.specs.Prelude.{◌≡◌, ◌+◌, ◌≤◌, Some, None};
 ghost use Rattle.alma_base.specs.Limits.{cell_limit};
 ghost use Rattle.alma_rules.specs.Scene.{is_structured, cells};
 ghost use Rattle.alma_rules.specs.Types as types;
 ghost use Rattle.alma_rules.specs.Decls as rules;
 ghost use Rattle.alma_rules.specs.View as view;
-ghost use Rattle.alma_check_block.specs.Shown.{frame_with_scene, told_frame, param_shaped};
+ghost use Rattle.alma_check_block.specs.Shown.{Follows, param_shaped};
 
 use crate::entry::enter_name;
 use crate::frame::Frame;
@@ -81,10 +81,9 @@ fn push_param(
 ) -> Result<(), NoMemory>
     requires fits { frame.old.declared + rules.declared_cells mode (cells reader.old shape)
         ≤ cell_limit }
-    ensures { (f : rules.Frame) → frame_with_scene reader.old frame.old ≡ told_frame f
-        → OnOk result (frame_with_scene reader.new frame.new ≡ told_frame (rules.with_param f
-        (view.view_name name.now) from mode shape (rules.param_kind (is_structured f.scene shape)
-        mode))) }
+    ensures { Follows reader.old frame.old reader.new frame.new result
+        (λ f. rules.with_param f (view.view_name name.now) from mode shape
+        (rules.param_kind (is_structured f.scene shape) mode)) }
 {
     let slot = frame.slots;
     let cells = reader.env().cells(shape);
@@ -112,10 +111,10 @@ fn take_param(
     mode: Option<Mode>,
     shape: u32,
 ) -> Result<(), NoMemory>
-    ensures { (f : rules.Frame) → frame_with_scene reader.old frame.old ≡ told_frame f
-        → OnOk result (frame_with_scene reader.new frame.new ≡ told_frame (rules.within_limit
-        (view.view_name name.now) f (rules.with_param f (view.view_name name.now) from mode shape
-        (rules.param_kind (is_structured f.scene shape) mode)))) }
+    ensures { Follows reader.old frame.old reader.new frame.new result
+        (λ f. rules.within_limit (view.view_name name.now) f
+        (rules.with_param f (view.view_name name.now) from mode shape
+        (rules.param_kind (is_structured f.scene shape) mode))) }
 {
     if frame.fits(declared_cells(mode, reader.env().cells(shape))) {
         return push_param(alloc, reader, frame, name, from, mode, shape);
@@ -135,10 +134,8 @@ fn place_param(
     mode: Option<Mode>,
     shape: u32,
 ) -> Result<(), NoMemory>
-    ensures { (f : rules.Frame) → frame_with_scene reader.old frame.old ≡ told_frame f
-        → OnOk result (frame_with_scene reader.new frame.new
-        ≡ told_frame (param_shaped f from mode shape
-        (view.view_name name.now))) }
+    ensures { Follows reader.old frame.old reader.new frame.new result
+        (λ f. param_shaped f from mode shape (view.view_name name.now)) }
 {
     if reader.is_first(name) {
         return take_param(alloc, reader, frame, name, from, mode, shape);
@@ -157,10 +154,8 @@ fn declare_shaped(
     mode: Option<Mode>,
     shape: u32,
 ) -> Result<(), NoMemory>
-    ensures { (f : rules.Frame) → frame_with_scene reader.old frame.old ≡ told_frame f
-        → OnOk result (frame_with_scene reader.new frame.new
-        ≡ told_frame (rules.param_in f from mode
-        (Some shape) (view.view_name name.now))) }
+    ensures { Follows reader.old frame.old reader.new frame.new result
+        (λ f. rules.param_in f from mode (Some shape) (view.view_name name.now)) }
 {
     place_param(alloc, reader, frame, name, from, mode, shape)?;
     frame
@@ -178,10 +173,8 @@ fn declare_bad(
     from: u32,
     mode: Option<Mode>,
 ) -> Result<(), NoMemory>
-    ensures { (f : rules.Frame) → frame_with_scene reader.old frame.old ≡ told_frame f
-        → OnOk result (frame_with_scene reader.new frame.new
-        ≡ told_frame (rules.param_in f from mode None
-        (view.view_name name.now))) }
+    ensures { Follows reader.old frame.old reader.new frame.new result
+        (λ f. rules.param_in f from mode None (view.view_name name.now)) }
 {
     enter_name(alloc, reader, frame, name, from, None, Entry::Bad)?;
     frame.formals.push(None)?;
@@ -197,10 +190,8 @@ fn declare_param(
     mode: Option<Mode>,
     shape: Option<u32>,
 ) -> Result<(), NoMemory>
-    ensures { (f : rules.Frame) → frame_with_scene reader.old frame.old ≡ told_frame f
-        → OnOk result (frame_with_scene reader.new frame.new
-        ≡ told_frame (rules.param_in f from mode shape
-        (view.view_name name.now))) }
+    ensures { Follows reader.old frame.old reader.new frame.new result
+        (λ f. rules.param_in f from mode shape (view.view_name name.now)) }
 {
     match shape {
         None => declare_bad(alloc, reader, frame, name, from, mode),
@@ -217,10 +208,8 @@ fn declare_params(
     mode: Option<Mode>,
     shape: Option<u32>,
 ) -> Result<(), NoMemory>
-    ensures { (f : rules.Frame) → frame_with_scene reader.old frame.old ≡ told_frame f
-        → OnOk result (frame_with_scene reader.new frame.new
-        ≡ told_frame (rules.params_in f from mode shape
-        (view.names_of names.now))) }
+    ensures { Follows reader.old frame.old reader.new frame.new result
+        (λ f. rules.params_in f from mode shape (view.names_of names.now)) }
 {
     for name in names {
         declare_param(alloc, reader, frame, name, from, mode, shape)?;
@@ -235,10 +224,9 @@ fn read_formal(
     frame: &mut Frame,
     formal: &Formal,
 ) -> Result<(), NoMemory>
-    ensures { (f : rules.Frame) → frame_with_scene reader.old frame.old ≡ told_frame f
-        → OnOk result (frame_with_scene reader.new frame.new ≡ told_frame (rules.formal_in f
-        (view.view_formal formal.now) (types.read_type_name f.scene
-        (view.view_name formal.now.type_name)))) }
+    ensures { Follows reader.old frame.old reader.new frame.new result
+        (λ f. rules.formal_in f (view.view_formal formal.now)
+        (types.read_type_name f.scene (view.view_name formal.now.type_name))) }
 {
     let from = next_number(formal.type_name.token)?;
     let mode = formal.mode;
@@ -256,9 +244,8 @@ fn read_formals(
     frame: &mut Frame,
     formals: &[Formal],
 ) -> Result<(), NoMemory>
-    ensures { (f : rules.Frame) → frame_with_scene reader.old frame.old ≡ told_frame f
-        → OnOk result (frame_with_scene reader.new frame.new ≡ told_frame (rules.read_formals f
-        (view.more_formals_of formals.now))) }
+    ensures { Follows reader.old frame.old reader.new frame.new result
+        (λ f. rules.read_formals f (view.more_formals_of formals.now)) }
 {
     for formal in formals {
         read_formal(alloc, reader, frame, formal)?;
@@ -273,9 +260,8 @@ pub fn read_params(
     frame: &mut Frame,
     params: &Option<Params>,
 ) -> Result<(), NoMemory>
-    ensures { (f : rules.Frame) → frame_with_scene reader.old frame.old ≡ told_frame f
-        → OnOk result (frame_with_scene reader.new frame.new ≡ told_frame (rules.read_formals f
-        (rules.formals_of (view.params_of params.now)))) }
+    ensures { Follows reader.old frame.old reader.new frame.new result
+        (λ f. rules.read_formals f (rules.formals_of (view.params_of params.now))) }
 {
     match params {
         None => Ok(()),

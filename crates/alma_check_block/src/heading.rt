@@ -1,5 +1,5 @@
 // Headings.
-ghost use Rattle.std.specs.Prelude.{◌≡◌, ℕ, List, Some, option_map, OnOk, IfOk};
+ghost use Rattle.std.specs.Prelude.{◌≡◌, ℕ, List, Some, option_map, IfOk};
 ghost use Rattle.alma_base.specs.declared.fault.CheckFault.{CheckFault as Rule};
 ghost use Rattle.alma_rules.specs.Judgement.{broken_at, if_unbroken};
 ghost use Rattle.alma_rules.specs.Scene.{Scene};
@@ -9,7 +9,7 @@ ghost use Rattle.alma_rules.specs.View as view;
 ghost use Rattle.alma_check_rules.specs.Views.{heading_view};
 ghost use Rattle.alma_check_type.specs.Told.{fault_of};
 ghost use Rattle.alma_check_type.specs.Around.{outer_of};
-ghost use Rattle.alma_check_block.specs.Shown.{frame_with_scene, told_frame, formals_view, formals_in};
+ghost use Rattle.alma_check_block.specs.Shown.{Follows, formals_in, formals_view, frame_with_scene, told_frame};
 
 use crate::formal::read_params;
 use crate::frame::{Frame, new_frame};
@@ -74,8 +74,8 @@ fn form_heading(
 
 // The fault of a result type that is structured.
 fn structured_result(reader: &Reader, name: &Name, shape: Option<u32>) -> Option<BrokenRule>
-    ensures { fault_of result ≡ first (broken_at name.now.node
-        (rules.result_rules reader.now shape)) }
+    ensures { fault_of result
+        ≡ first (broken_at name.now.node (rules.result_rules reader.now shape)) }
 {
     match shape {
         None => None,
@@ -98,12 +98,11 @@ fn read_function(
     frame: &mut Frame,
     name: &Name,
 ) -> Result<Option<Heading>, NoMemory>
-    ensures frame { (f : rules.Frame) → frame_with_scene reader.old frame.old ≡ told_frame f
-        → OnOk result (frame_with_scene reader.new frame.new ≡ told_frame (rules.heading_at f
-        (Some (view.view_name name.now))).frame) }
+    ensures frame { Follows reader.old frame.old reader.new frame.new result
+        (λ f. (rules.heading_at f (Some (view.view_name name.now))).frame) }
     ensures heading { (f : rules.Frame) → frame_with_scene reader.old frame.old ≡ told_frame f
-        → IfOk result (λ h. option_map heading_view h ≡ (rules.heading_at f
-        (Some (view.view_name name.now))).heading) }
+        → IfOk result (λ h.
+        option_map heading_view h ≡ (rules.heading_at f (Some (view.view_name name.now))).heading) }
 {
     let reading = read_type_name(reader.env(), name)?;
     let structured = structured_result(reader, name, reading.value);
@@ -123,12 +122,11 @@ fn read_result(
     frame: &mut Frame,
     returns: &Option<Name>,
 ) -> Result<Option<Heading>, NoMemory>
-    ensures frame { (f : rules.Frame) → frame_with_scene reader.old frame.old ≡ told_frame f
-        → OnOk result (frame_with_scene reader.new frame.new ≡ told_frame (rules.heading_at f
-        (view.result_of returns.now)).frame) }
+    ensures frame { Follows reader.old frame.old reader.new frame.new result
+        (λ f. (rules.heading_at f (view.result_of returns.now)).frame) }
     ensures heading { (f : rules.Frame) → frame_with_scene reader.old frame.old ≡ told_frame f
-        → IfOk result (λ h. option_map heading_view h ≡ (rules.heading_at f
-        (view.result_of returns.now)).heading) }
+        → IfOk result (λ h.
+        option_map heading_view h ≡ (rules.heading_at f (view.result_of returns.now)).heading) }
 {
     match returns {
         None => {
@@ -187,11 +185,11 @@ pub fn read_heading(
     returns: &Option<Name>,
     block: &Block,
 ) -> Result<Headed, NoMemory>
-    ensures frame { IfOk result (λ x. frame_with_scene reader.new x.frame ≡ told_frame
-        (rules.read_heading reader.old routine node (view.params_of params.now)
+    ensures frame { IfOk result (λ x. frame_with_scene reader.new x.frame
+        ≡ told_frame (rules.read_heading reader.old routine node (view.params_of params.now)
         (view.result_of returns.now) (view.view_block block.now)).frame) }
-    ensures heading { IfOk result (λ x. option_map heading_view x.heading ≡
-        (rules.read_heading reader.old routine node (view.params_of params.now)
+    ensures heading { IfOk result (λ x. option_map heading_view x.heading
+        ≡ (rules.read_heading reader.old routine node (view.params_of params.now)
         (view.result_of returns.now) (view.view_block block.now)).heading) }
     ensures around { IfOk result (λ x. x.around ≡ outer_of reader.old) }
 {

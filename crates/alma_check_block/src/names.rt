@@ -5,6 +5,7 @@ ghost use Rattle.alma_rules.specs.Types as types;
 ghost use Rattle.alma_rules.specs.Decls as rules;
 ghost use Rattle.alma_rules.specs.View as view;
 ghost use Rattle.alma_check_rules.specs.Views.{declares_view};
+ghost use Rattle.alma_check_block.specs.Shown.{Collects};
 
 use alma_base::NoMemory;
 use alma_check_type::{Reader, with_name};
@@ -21,8 +22,9 @@ fn add_name(
     names: &mut IndexMap<Vec<u8>, u32>,
     name: &Name,
 ) -> Result<(), NoMemory>
-    ensures { OnOk result (declares_view names.new ≡ rules.with_text (declares_view names.old)
-        (text_at reader.now name.now.token) name.now.token) }
+    ensures { OnOk result (declares_view names.new
+        ≡ rules.with_text (declares_view names.old) (text_at reader.now name.now.token)
+        name.now.token) }
 {
     let text = reader.env().text(name.token);
     with_name(names, alloc, text, name.token)
@@ -34,8 +36,7 @@ fn add_more(
     names: &mut IndexMap<Vec<u8>, u32>,
     more: &[Name],
 ) -> Result<(), NoMemory>
-    ensures { OnOk result (declares_view names.new ≡ rules.texts_behind reader.now
-        (declares_view names.old) (view.names_of more.now)) }
+    ensures { Collects result reader.now names.old names.new (view.names_of more.now) }
 {
     for name in more {
         add_name(alloc, reader, names, name)?;
@@ -49,8 +50,8 @@ fn add_names(
     names: &mut IndexMap<Vec<u8>, u32>,
     all: &Names,
 ) -> Result<(), NoMemory>
-    ensures { OnOk result (declares_view names.new ≡ rules.texts_behind reader.now
-        (declares_view names.old) (types.all_names (view.view_names all.now))) }
+    ensures { Collects result reader.now names.old names.new
+        (types.all_names (view.view_names all.now)) }
 {
     add_name(alloc, reader, names, &all.first)?;
     add_more(alloc, reader, names, &all.more)
@@ -65,8 +66,8 @@ fn add_type(
     names: &mut IndexMap<Vec<u8>, u32>,
     tree: &TypeNode,
 ) -> Result<(), NoMemory>
-    ensures { OnOk result (declares_view names.new ≡ rules.texts_behind reader.now
-        (declares_view names.old) (types.type_names (view.view_type_node tree.now))) }
+    ensures { Collects result reader.now names.old names.new
+        (types.type_names (view.view_type_node tree.now)) }
 {
     add_arrays(alloc, reader, names, &tree.arrays)?;
     add_plain(alloc, reader, names, &tree.element)
@@ -79,8 +80,8 @@ fn add_arrays(
     names: &mut IndexMap<Vec<u8>, u32>,
     arrays: &Option<Arrays>,
 ) -> Result<(), NoMemory>
-    ensures { OnOk result (declares_view names.new ≡ rules.texts_behind reader.now
-        (declares_view names.old) (types.arrays_names (view.arrays_of arrays.now))) }
+    ensures { Collects result reader.now names.old names.new
+        (types.arrays_names (view.arrays_of arrays.now)) }
 {
     match arrays {
         None => Ok(()),
@@ -98,8 +99,8 @@ fn add_dimension_tail(
     names: &mut IndexMap<Vec<u8>, u32>,
     more: &[Dimensions],
 ) -> Result<(), NoMemory>
-    ensures { OnOk result (declares_view names.new ≡ rules.texts_behind reader.now
-        (declares_view names.old) (types.dimension_tail_names (view.dimensions_of more.now))) }
+    ensures { Collects result reader.now names.old names.new
+        (types.dimension_tail_names (view.dimensions_of more.now)) }
 {
     for dimensions in more {
         add_dimensions(alloc, reader, names, dimensions)?;
@@ -114,8 +115,8 @@ fn add_dimensions(
     names: &mut IndexMap<Vec<u8>, u32>,
     dimensions: &Dimensions,
 ) -> Result<(), NoMemory>
-    ensures { OnOk result (declares_view names.new ≡ rules.texts_behind reader.now
-        (declares_view names.old) (types.dimensions_names (view.view_dimension dimensions.now))) }
+    ensures { Collects result reader.now names.old names.new
+        (types.dimensions_names (view.view_dimension dimensions.now)) }
 {
     add_plain(alloc, reader, names, &dimensions.first)?;
     add_plains(alloc, reader, names, &dimensions.more)
@@ -128,8 +129,8 @@ fn add_plains(
     names: &mut IndexMap<Vec<u8>, u32>,
     more: &[PlainType],
 ) -> Result<(), NoMemory>
-    ensures { OnOk result (declares_view names.new ≡ rules.texts_behind reader.now
-        (declares_view names.old) (types.plains_names (view.plains_of more.now))) }
+    ensures { Collects result reader.now names.old names.new
+        (types.plains_names (view.plains_of more.now)) }
 {
     for plain in more {
         add_plain(alloc, reader, names, plain)?;
@@ -144,8 +145,8 @@ fn add_plain(
     names: &mut IndexMap<Vec<u8>, u32>,
     plain: &PlainType,
 ) -> Result<(), NoMemory>
-    ensures { OnOk result (declares_view names.new ≡ rules.texts_behind reader.now
-        (declares_view names.old) (types.plain_names (view.view_plain_type plain.now))) }
+    ensures { Collects result reader.now names.old names.new
+        (types.plain_names (view.view_plain_type plain.now)) }
 {
     match plain {
         PlainType::Named { .. } => Ok(()),
@@ -172,8 +173,8 @@ fn add_fields(
     names: &mut IndexMap<Vec<u8>, u32>,
     list: &FieldList,
 ) -> Result<(), NoMemory>
-    ensures { OnOk result (declares_view names.new ≡ rules.texts_behind reader.now
-        (declares_view names.old) (types.fields_names (view.view_field_list list.now))) }
+    ensures { Collects result reader.now names.old names.new
+        (types.fields_names (view.view_field_list list.now)) }
 {
     match list {
         FieldList::Empty { node: _ } => Ok(()),
@@ -192,8 +193,8 @@ fn add_field_tail(
     names: &mut IndexMap<Vec<u8>, u32>,
     more: &[FieldList],
 ) -> Result<(), NoMemory>
-    ensures { OnOk result (declares_view names.new ≡ rules.texts_behind reader.now
-        (declares_view names.old) (types.field_tail_names (view.field_lists_of more.now))) }
+    ensures { Collects result reader.now names.old names.new
+        (types.field_tail_names (view.field_lists_of more.now)) }
 {
     for list in more {
         add_fields(alloc, reader, names, list)?;
@@ -209,8 +210,8 @@ fn add_consts(
     names: &mut IndexMap<Vec<u8>, u32>,
     entries: &[ConstEntry],
 ) -> Result<(), NoMemory>
-    ensures { OnOk result (declares_view names.new ≡ rules.texts_behind reader.now
-        (declares_view names.old) (rules.const_names (view.consts_of entries.now))) }
+    ensures { Collects result reader.now names.old names.new
+        (rules.const_names (view.consts_of entries.now)) }
 {
     for entry in entries {
         add_name(alloc, reader, names, &entry.name)?;
@@ -224,8 +225,8 @@ fn add_types(
     names: &mut IndexMap<Vec<u8>, u32>,
     entries: &[TypeEntry],
 ) -> Result<(), NoMemory>
-    ensures { OnOk result (declares_view names.new ≡ rules.texts_behind reader.now
-        (declares_view names.old) (rules.type_entry_names (view.types_of entries.now))) }
+    ensures { Collects result reader.now names.old names.new
+        (rules.type_entry_names (view.types_of entries.now)) }
 {
     for entry in entries {
         add_name(alloc, reader, names, &entry.name)?;
@@ -240,8 +241,8 @@ fn add_vars(
     names: &mut IndexMap<Vec<u8>, u32>,
     entries: &[VarEntry],
 ) -> Result<(), NoMemory>
-    ensures { OnOk result (declares_view names.new ≡ rules.texts_behind reader.now
-        (declares_view names.old) (rules.var_names (view.vars_of entries.now))) }
+    ensures { Collects result reader.now names.old names.new
+        (rules.var_names (view.vars_of entries.now)) }
 {
     for entry in entries {
         add_names(alloc, reader, names, &entry.names)?;
@@ -256,8 +257,8 @@ fn add_decl(
     names: &mut IndexMap<Vec<u8>, u32>,
     decl: &Decl,
 ) -> Result<(), NoMemory>
-    ensures { OnOk result (declares_view names.new ≡ rules.texts_behind reader.now
-        (declares_view names.old) (rules.decl_names (view.view_decl decl.now))) }
+    ensures { Collects result reader.now names.old names.new
+        (rules.decl_names (view.view_decl decl.now)) }
 {
     match decl {
         Decl::Const { node: _, entries } => add_consts(alloc, reader, names, entries),
@@ -273,8 +274,8 @@ fn add_decls(
     names: &mut IndexMap<Vec<u8>, u32>,
     decls: &[Decl],
 ) -> Result<(), NoMemory>
-    ensures { OnOk result (declares_view names.new ≡ rules.texts_behind reader.now
-        (declares_view names.old) (rules.decls_names (view.decls_of decls.now))) }
+    ensures { Collects result reader.now names.old names.new
+        (rules.decls_names (view.decls_of decls.now)) }
 {
     for decl in decls {
         add_decl(alloc, reader, names, decl)?;
@@ -288,8 +289,8 @@ fn add_formals(
     names: &mut IndexMap<Vec<u8>, u32>,
     more: &[Formal],
 ) -> Result<(), NoMemory>
-    ensures { OnOk result (declares_view names.new ≡ rules.texts_behind reader.now
-        (declares_view names.old) (rules.formal_names (view.more_formals_of more.now))) }
+    ensures { Collects result reader.now names.old names.new
+        (rules.formal_names (view.more_formals_of more.now)) }
 {
     for formal in more {
         add_names(alloc, reader, names, &formal.names)?;
@@ -303,9 +304,8 @@ fn add_params(
     names: &mut IndexMap<Vec<u8>, u32>,
     params: &Option<Params>,
 ) -> Result<(), NoMemory>
-    ensures { OnOk result (declares_view names.new ≡ rules.texts_behind reader.now
-        (declares_view names.old) (rules.formal_names (rules.formals_of
-        (view.params_of params.now)))) }
+    ensures { Collects result reader.now names.old names.new
+        (rules.formal_names (rules.formals_of (view.params_of params.now))) }
 {
     match params {
         None => Ok(()),

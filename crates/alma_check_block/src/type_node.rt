@@ -22,8 +22,8 @@ pub fn read_type(
     reader: &mut Reader,
     tree: &TypeNode,
 ) -> Result<Reading<u32>, NoMemory>
-    ensures { IfOk result (λ r. told (types.read_type reader.old
-        (view_type_node tree.now)) ≡ tells r reader.new) }
+    ensures { IfOk result (λ r.
+        told (types.read_type reader.old (view_type_node tree.now)) ≡ tells r reader.new) }
 {
     let rows = read_arrays(alloc, reader, &tree.arrays)?;
     let element = read_plain(alloc, reader, &tree.element);
@@ -36,8 +36,9 @@ fn read_arrays(
     reader: &mut Reader,
     arrays: &Option<Arrays>,
 ) -> Result<Reading<Vec<u32>>, NoMemory>
-    ensures { IfOk result (λ r. told (types.read_arrays reader.old
-        (arrays_of arrays.now)) ≡ tells_of items_of r reader.new) }
+    ensures { IfOk result (λ r.
+        told (types.read_arrays reader.old (arrays_of arrays.now))
+        ≡ tells_of items_of r reader.new) }
 {
     let rows = Reading {
         fault: None,
@@ -79,8 +80,8 @@ fn read_dimensions(
     dimensions: &Dimensions,
 ) -> Result<Reading<Vec<u32>>, NoMemory>
     ensures { IfOk result (λ r. onward (fault_of rows.fault) (items_in rows.value)
-        (told (types.read_dimensions reader.old
-        (view_dimension dimensions.now))) ≡ tells_of items_of r reader.new) }
+        (told (types.read_dimensions reader.old (view_dimension dimensions.now)))
+        ≡ tells_of items_of r reader.new) }
 {
     let index = read_plain(alloc, reader, &dimensions.first);
     let rows = join_index(reader, rows, plain_node(&dimensions.first), index)?;
@@ -112,8 +113,9 @@ fn read_plain(
     reader: &mut Reader,
     plain: &PlainType,
 ) -> Result<Reading<ShapeOrLimit>, NoMemory>
-    ensures { IfOk result (λ r. told (types.read_plain reader.old
-        (view_plain_type plain.now)) ≡ tells_of formed_of r reader.new) }
+    ensures { IfOk result (λ r.
+        told (types.read_plain reader.old (view_plain_type plain.now))
+        ≡ tells_of formed_of r reader.new) }
 {
     match plain {
         PlainType::Named { node: _, name } => read_named(reader.env(), name),
@@ -141,8 +143,9 @@ fn read_fields(
 ) -> Result<Fields, NoMemory>
     ensures { (before : List tree.Name)
         → spec.Knows reader.old.tokens fields.names.entries before
-        → IfOk result (λ r. (spec.told_on (spec.told_fields fields) (told (types.read_fields
-        reader.old before (view_field_list list.now)))
+        → IfOk result (λ r.
+        (spec.told_on (spec.told_fields fields)
+        (told (types.read_fields reader.old before (view_field_list list.now)))
         ≡ spec.told_list (spec.told_fields r) reader.new)
         × spec.Knows reader.new.tokens r.names.entries
         (before ++ types.field_names (view_field_list list.now))) }
@@ -169,8 +172,8 @@ fn read_field_tail(
 ) -> Result<Fields, NoMemory>
     ensures { (before : List tree.Name)
         → spec.Knows reader.old.tokens begun.names.entries before
-        → IfOk result (λ r. spec.told_on (spec.told_fields begun) (told (types.read_field_tail
-        reader.old before (field_lists_of more.now)))
+        → IfOk result (λ r. spec.told_on (spec.told_fields begun)
+        (told (types.read_field_tail reader.old before (field_lists_of more.now)))
         ≡ spec.told_list (spec.told_fields r) reader.new) }
 {
     let mut fields = begun;

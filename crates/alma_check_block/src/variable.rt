@@ -1,11 +1,11 @@
 // Variables.
-ghost use Rattle.std.specs.Prelude.{◌≡◌, ◌+◌, ◌≤◌, Some, OnOk};
+ghost use Rattle.std.specs.Prelude.{◌≡◌, ◌+◌, ◌≤◌, Some};
 ghost use Rattle.alma_base.specs.Limits.{cell_limit};
 ghost use Rattle.alma_rules.specs.Scene.{cells};
 ghost use Rattle.alma_rules.specs.Types as types;
 ghost use Rattle.alma_rules.specs.Decls as rules;
 ghost use Rattle.alma_rules.specs.View as view;
-ghost use Rattle.alma_check_block.specs.Shown.{frame_with_scene, told_frame};
+ghost use Rattle.alma_check_block.specs.Shown.{Follows};
 
 use crate::entry::{behind_type, enter_name};
 use crate::frame::Frame;
@@ -36,9 +36,8 @@ fn push_variable(
     shape: u32,
 ) -> Result<(), NoMemory>
     requires fits { frame.old.declared + cells reader.old shape ≤ cell_limit }
-    ensures { (f : rules.Frame) → frame_with_scene reader.old frame.old ≡ told_frame f
-        → OnOk result (frame_with_scene reader.new frame.new ≡ told_frame (rules.with_variable f
-        (view.view_name name.now) from shape)) }
+    ensures { Follows reader.old frame.old reader.new frame.new result
+        (λ f. rules.with_variable f (view.view_name name.now) from shape) }
 {
     let slot = frame.slots;
     let cells = reader.env().cells(shape);
@@ -63,10 +62,9 @@ fn place_variable(
     from: u32,
     shape: u32,
 ) -> Result<(), NoMemory>
-    ensures { (f : rules.Frame) → frame_with_scene reader.old frame.old ≡ told_frame f
-        → OnOk result (frame_with_scene reader.new frame.new ≡ told_frame (rules.within_limit
-        (view.view_name name.now) f (rules.with_variable f (view.view_name name.now) from
-        shape))) }
+    ensures { Follows reader.old frame.old reader.new frame.new result
+        (λ f. rules.within_limit (view.view_name name.now) f
+        (rules.with_variable f (view.view_name name.now) from shape)) }
 {
     if frame.fits(reader.env().cells(shape)) {
         return push_variable(alloc, reader, frame, name, from, shape);
@@ -85,9 +83,8 @@ fn declare_shaped(
     from: u32,
     shape: u32,
 ) -> Result<(), NoMemory>
-    ensures { (f : rules.Frame) → frame_with_scene reader.old frame.old ≡ told_frame f
-        → OnOk result (frame_with_scene reader.new frame.new ≡ told_frame (rules.variable_in f from
-        (Some shape) (view.view_name name.now))) }
+    ensures { Follows reader.old frame.old reader.new frame.new result
+        (λ f. rules.variable_in f from (Some shape) (view.view_name name.now)) }
 {
     if reader.is_first(name) {
         return place_variable(alloc, reader, frame, name, from, shape);
@@ -104,10 +101,8 @@ fn declare_variable(
     from: u32,
     shape: Option<u32>,
 ) -> Result<(), NoMemory>
-    ensures { (f : rules.Frame) → frame_with_scene reader.old frame.old ≡ told_frame f
-        → OnOk result (frame_with_scene reader.new frame.new
-        ≡ told_frame (rules.variable_in f from shape
-        (view.view_name name.now))) }
+    ensures { Follows reader.old frame.old reader.new frame.new result
+        (λ f. rules.variable_in f from shape (view.view_name name.now)) }
 {
     match shape {
         None => enter_name(alloc, reader, frame, name, from, None, Entry::Bad),
@@ -123,10 +118,8 @@ fn declare_variables(
     from: u32,
     shape: Option<u32>,
 ) -> Result<(), NoMemory>
-    ensures { (f : rules.Frame) → frame_with_scene reader.old frame.old ≡ told_frame f
-        → OnOk result (frame_with_scene reader.new frame.new
-        ≡ told_frame (rules.variables_in f from shape
-        (view.names_of names.now))) }
+    ensures { Follows reader.old frame.old reader.new frame.new result
+        (λ f. rules.variables_in f from shape (view.names_of names.now)) }
 {
     for name in names {
         declare_variable(alloc, reader, frame, name, from, shape)?;
@@ -141,10 +134,9 @@ fn read_var(
     frame: &mut Frame,
     entry: &VarEntry,
 ) -> Result<(), NoMemory>
-    ensures { (f : rules.Frame) → frame_with_scene reader.old frame.old ≡ told_frame f
-        → OnOk result (frame_with_scene reader.new frame.new ≡ told_frame (rules.variables_of f
-        (view.view_var entry.now) (types.read_type f.scene
-        (view.view_type_node entry.now.type_node)))) }
+    ensures { Follows reader.old frame.old reader.new frame.new result
+        (λ f. rules.variables_of f (view.view_var entry.now)
+        (types.read_type f.scene (view.view_type_node entry.now.type_node))) }
 {
     let last = last_token(&entry.names);
     let from = behind_type(alloc, last, &entry.type_node)?;
@@ -163,9 +155,8 @@ pub fn read_vars(
     frame: &mut Frame,
     entries: &[VarEntry],
 ) -> Result<(), NoMemory>
-    ensures { (f : rules.Frame) → frame_with_scene reader.old frame.old ≡ told_frame f
-        → OnOk result (frame_with_scene reader.new frame.new ≡ told_frame (rules.read_vars f
-        (view.vars_of entries.now))) }
+    ensures { Follows reader.old frame.old reader.new frame.new result
+        (λ f. rules.read_vars f (view.vars_of entries.now)) }
 {
     for entry in entries {
         read_var(alloc, reader, frame, entry)?;

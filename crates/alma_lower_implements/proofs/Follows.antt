@@ -42,7 +42,7 @@ module _ (code : PlainCode) (input : List ℕ) where
   still s x e =
       (ap (λ m. (machine.step_in code input m s).state) e, ap (λ m. (machine.step_in code input m s).printed) e)
 
-  ended_stays : (k : ℕ) (s : State) (x : End) → s.mode ≡ Ended x → (after code input k s ≡ s) × (machine.prints code input k s ≡ [])
+  pub ended_stays : (k : ℕ) (s : State) (x : End) → s.mode ≡ Ended x → (after code input k s ≡ s) × (machine.prints code input k s ≡ [])
   ended_stays zero s x e = (refl, refl)
   ended_stays (suc k) s x e =
       let p = still s x e in
@@ -142,7 +142,7 @@ module _ (code : PlainCode) (input : List ℕ) where
       }
 
   -- a failing machine with no entry ends
-  no_entry_ends : (t : State) → IsFailing [] t → ((step code input t).state.mode ≡ Ended end.Failed) × ((step code input t).printed ≡ [])
+  pub no_entry_ends : (t : State) → IsFailing [] t → ((step code input t).state.mode ≡ Ended end.Failed) × ((step code input t).printed ≡ [])
   no_entry_ends t h =
       let is : step code input t ≡ machine.pop_or_end (machine.with_step_counted code input t) [] =
       ap (λ m. machine.step_in code input m t) h.mode ∙ ap (machine.pop_or_end (machine.with_step_counted code input t)) h.entries in

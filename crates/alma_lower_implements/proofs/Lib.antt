@@ -1,5 +1,6 @@
 pub mod Goes
 pub mod Follows
+pub mod Succeeds
 pub mod Enough
 pub mod Frames
 pub mod Steps

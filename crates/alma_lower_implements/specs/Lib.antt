@@ -1,1 +1,2 @@
 pub mod Implements
+pub mod Values
