@@ -1,12 +1,21 @@
 -- What a code keeps whose slots are renamed.
-use Rattle.std.proofs.Common.{◌≡◌, sym, ap, ◌∙◌, subst}
-use Rattle.std.specs.Prelude.{Result, Ok, Err, IfOk}
+use Rattle.std.proofs.Common.{◌≡◌, ◌<◌, ◌+◌, ℕ, List, [], ◌∷◌, sym, ap, ◌∙◌, subst}
+use Rattle.std.specs.Prelude.{Result, Ok, Err, IfOk, map}
+use Rattle.std.specs.List.{AllByRecursion}
+use Rattle.alma_code.specs.declared.cell.Cell.TheVariants as cell
 use Rattle.alma_code.specs.Lines.{last_line}
-use Rattle.alma_code.specs.Plain.{PlainCode}
-use Rattle.alma_ir.specs.Tree.{Program}
+use Rattle.alma_code.specs.Picture.{PlainFrame, cell_at}
+use Rattle.alma_code.specs.Plain.{PlainCode, PlainGlobal}
+use Rattle.alma_code.specs.Reads.{code_reads}
+use Rattle.alma_code.specs.Rules.{IsSound}
+use Rattle.alma_ir.specs.Tree.{Program, Global}
+use Rattle.alma_mean.specs.Store.{Store}
+use Rattle.alma_mean.specs.Store as store
 use Rattle.alma_lower_implements.specs.Implements.{ComesTo, Implements, line_in, printed_by, state_after}
-use Rattle.alma_lower_slots.specs.Same.{DoesTheSame, KeepsTables}
-use Rattle.alma_lower.specs.Names.{KeepsNames}
+use Rattle.alma_lower_implements.specs.Values.{KeepsValues, cell_of_value}
+use Rattle.alma_lower_slots.specs.Same.{DoesTheSame, HoldTheSame, KeepsTables}
+use Rattle.alma_lower.specs.CodeFor.{IsCodeFor}
+use Rattle.alma_lower.specs.Names.{KeepsNames, variable_of}
 
 -- it implements what the code did
 pub implements_the_same : (code new : PlainCode) (p : Program) → DoesTheSame code new → KeepsTables code new → Implements code p
@@ -28,12 +37,43 @@ names_the_same code new p tables names = record {
   version = tables.version ∙ names.version;
 }
 
+-- where the variables hold the same, they hold what the store does
+values_over : (gs : List Global) (s : Store) (frames frames' : List PlainFrame)
+    → AllByRecursion (λ g. (k : ℕ) → k < g.cells → cell_at frames' 0 (g.slot + k) cell.Unknown ≡ cell_at frames 0 (g.slot + k) cell.Unknown)
+    (map variable_of gs)
+    → AllByRecursion (λ g. (k : ℕ) → k < g.cells → cell_at frames 0 (g.slot + k) cell.Unknown ≡ cell_of_value (store.cell_at s 0 (g.slot + k))) gs
+    → AllByRecursion (λ g. (k : ℕ) → k < g.cells → cell_at frames' 0 (g.slot + k) cell.Unknown ≡ cell_of_value (store.cell_at s 0 (g.slot + k))) gs
+values_over [] s frames frames' same holds = tt
+values_over (g ∷ gs) s frames frames' same holds =
+    (λ k lt. same.0 k lt ∙ holds.0 k lt, values_over gs s frames frames' same.1 holds.1)
+
+-- it ends with the same values
+pub values_the_same : (code new : PlainCode) (p : Program) → DoesTheSame code new → KeepsNames code p → KeepsValues code p → KeepsValues new p
+values_the_same code new p same names values input small n ended =
+    let before = sym (same.mode input n) ∙ ended in
+    let v = values input small n before in
+    let held = subst (λ (gs : List PlainGlobal). HoldTheSame gs (state_after code input n).now (state_after new input n).now) names.variables
+    (same.variables input n before) in
+    (v.0, v.1, values_over p.globals v.0 (state_after code input n).now (state_after new input n).now held v.2)
+
+-- it is code of the same program
+pub code_for_the_same : (code new : PlainCode) (p : Program) → DoesTheSame code new → KeepsTables code new → IsSound new
+    → code_reads new ≡ code_reads code → IsCodeFor p code → IsCodeFor p new
+code_for_the_same code new p same tables sound reads is = record {
+  sound = sound;
+  implements = implements_the_same code new p same tables is.implements;
+  values = values_the_same code new p same is.names is.values;
+  reads = reads ∙ is.reads;
+  names = names_the_same code new p tables is.names;
+}
+
 -- what follows from a fact of the answer holds of it
 pub of_answer : {A E : Type 0} (r : Result A E) (P Q : A → Type 0) → ((x : A) → P x → Q x) → IfOk r P → IfOk r Q
 of_answer (Ok x) P Q f p = f x p
 of_answer (Err e) P Q f p = tt
 
--- what follows from two facts of the answer holds of it
-pub of_answers : {A E : Type 0} (r : Result A E) (P Q R : A → Type 0) → ((x : A) → P x → Q x → R x) → IfOk r P → IfOk r Q → IfOk r R
-of_answers (Ok x) P Q R f p q = f x p q
-of_answers (Err e) P Q R f p q = tt
+-- what follows from four facts of the answer holds of it
+pub of_answers : {A E : Type 0} (r : Result A E) (P Q R S T : A → Type 0) → ((x : A) → P x → Q x → R x → S x → T x) → IfOk r P → IfOk r Q
+    → IfOk r R → IfOk r S → IfOk r T
+of_answers (Ok x) P Q R S T f p q r s = f x p q r s
+of_answers (Err e) P Q R S T f p q r s = tt

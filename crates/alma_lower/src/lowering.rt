@@ -3,14 +3,10 @@ ghost use Rattle.std.specs.Prelude.{◌≡◌, ◌*◌, ◌<◌, ◌≤◌, ℕ,
 ghost use Rattle.alma_base.specs.Limits.{size_limit};
 ghost use Rattle.alma_code.specs.Plain.{code_of};
 ghost use Rattle.alma_code.specs.Records.{KeepsCounts, KeepsRecords, KeepsVersion};
-ghost use Rattle.alma_code.specs.Rules.{IsSound};
-ghost use Rattle.alma_lower_implements.specs.Implements.{Implements};
 ghost use Rattle.alma_ir.specs.Checked.{IsChecked};
 ghost use Rattle.alma_ir.specs.Count.{saturate, nodes};
 ghost use Rattle.alma_ir.specs.View.{program_of};
-ghost use Rattle.alma_code.specs.Reads.{code_reads};
-ghost use Rattle.alma_lower.specs.Names.{KeepsNames};
-ghost use Rattle.alma_lower_sound.specs.Reads.{program_reads};
+ghost use Rattle.alma_lower.specs.CodeFor.{IsCodeFor};
 
 use crate::compiled::compiled;
 use alma_base::{NoMemory, SIZE_LIMIT};
@@ -31,23 +27,19 @@ pub enum LowerError {
 }
 
 /// A code that implements the program: a machine on it does what the program means, each fault at the line of its
-/// statement.
+/// statement, and where it succeeds the variables of the module hold what the meaning gives them.
 pub fn lower(alloc: Global, program: &Program) -> Result<Code, LowerError>
     requires checked { IsChecked (program_of program.now) }
-    ensures implements { IfOk result (λ code. Implements (code_of code) (program_of program.now)) }
-    ensures sound { IfOk result (λ code. IsSound (code_of code)) }
-    ensures names { IfOk result (λ code. KeepsNames (code_of code) (program_of program.now)) }
+    ensures code { IfOk result (λ code. IsCodeFor (program_of program.now) (code_of code)) }
     ensures version { IfOk result (λ code. KeepsVersion (code_of code)) }
     ensures counts { IfOk result (λ code. KeepsCounts (code_of code)) }
     ensures records { IfOk result (λ code. KeepsRecords (code_of code)) }
-    ensures reads { IfOk result (λ code. code_reads (code_of code) ≡ program_reads
-        (program_of program.now)) }
-    ensures few { IfOk result (λ code. length (code_of code).instrs ≤ 16 * nodes
-        (program_of program.now)) }
-    ensures too_much { let size = saturate (16 * nodes (program_of program.now)) in size_limit
-        < size → result ≡ Err (LowerError.TooMuchCode size) }
-    ensures within { let size = saturate (16 * nodes (program_of program.now)) in size ≤ size_limit
-        → (n : ℕ) → result ≡ Err (LowerError.TooMuchCode n) → ⊥ }
+    ensures few { IfOk result (λ code.
+        length (code_of code).instrs ≤ 16 * nodes (program_of program.now)) }
+    ensures too_much { let size = saturate (16 * nodes (program_of program.now)) in
+        size_limit < size → result ≡ Err (LowerError.TooMuchCode size) }
+    ensures within { let size = saturate (16 * nodes (program_of program.now)) in
+        size ≤ size_limit → (n : ℕ) → result ≡ Err (LowerError.TooMuchCode n) → ⊥ }
 {
     let size = size(program);
     if size > SIZE_LIMIT {
@@ -63,16 +55,12 @@ pub fn lower(alloc: Global, program: &Program) -> Result<Code, LowerError>
 fn with_few_slots(alloc: Global, program: &Program) -> Result<Code, NoMemory>
     requires checked { IsChecked (program_of program.now) }
     requires size { 16 * nodes (program_of program.now) ≤ size_limit }
-    ensures implements { IfOk result (λ code. Implements (code_of code) (program_of program.now)) }
-    ensures sound { IfOk result (λ code. IsSound (code_of code)) }
-    ensures names { IfOk result (λ code. KeepsNames (code_of code) (program_of program.now)) }
+    ensures code { IfOk result (λ code. IsCodeFor (program_of program.now) (code_of code)) }
     ensures version { IfOk result (λ code. KeepsVersion (code_of code)) }
     ensures counts { IfOk result (λ code. KeepsCounts (code_of code)) }
     ensures records { IfOk result (λ code. KeepsRecords (code_of code)) }
-    ensures reads { IfOk result (λ code. code_reads (code_of code) ≡ program_reads
-        (program_of program.now)) }
-    ensures few { IfOk result (λ code. length (code_of code).instrs ≤ 16 * nodes
-        (program_of program.now)) }
+    ensures few { IfOk result (λ code.
+        length (code_of code).instrs ≤ 16 * nodes (program_of program.now)) }
 {
     let code = compiled(alloc, program)?;
     share_slots(alloc, code)

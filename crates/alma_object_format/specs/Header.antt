@@ -28,6 +28,10 @@ header_of bytes = record {
   lines = if nat_eq (u16_at bytes 8) 2 then u32_at bytes 46 else 0;
 }
 
+-- the greatest number of routines
+abbrev pub routine_limit : ℕ
+routine_limit = 262144
+
 -- ---- the faults of the header
 
 -- of the magic
@@ -46,7 +50,7 @@ count_fault bytes at greatest = whole bytes (at + 4) (unless (nat_le (u32_at byt
 -- of the counts: there is a routine, and no text bytes stand without a text
 unfoldable pub counts_fault : List ℕ → Option ObjectFault
 counts_fault bytes =
-    or_else (count_fault bytes 10 262144)
+    or_else (count_fault bytes 10 routine_limit)
     (unless (nat_le 1 (u32_at bytes 10)) (fault.BadCount 10)
     (or_else (count_fault bytes 14 record_limit)
     (or_else (count_fault bytes 18 record_limit)
@@ -70,7 +74,7 @@ pub record IsWithin (h : Header) : Type 0 where
   pub version : (nat_eq h.version 1 || nat_eq h.version 2) ≡ true
   pub no_lines : h.version ≡ 1 → h.lines ≡ 0
   pub some : 1 ≤ h.routines
-  pub routines : h.routines ≤ 262144
+  pub routines : h.routines ≤ routine_limit
   pub globals : h.globals ≤ record_limit
   pub params : h.params ≤ record_limit
   pub runs : h.runs ≤ slot_limit

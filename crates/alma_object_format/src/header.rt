@@ -1,11 +1,15 @@
 // The header of an object: its version and its counts.
-ghost use Rattle.std.specs.Prelude.{◌≡◌, ◌+◌, ◌≤◌, ◌<◌, ◌*◌, ◌^◌, ◌||◌, nat_eq, length, IfOk, MatchResult, Some, None, true};
+ghost use Rattle.std.specs.Prelude.{◌≡◌, ◌+◌, ◌≤◌, ◌<◌, ◌*◌, ◌^◌, ◌||◌, nat_eq, length, IfOk, true};
 ghost use Rattle.alma_object_format.specs.Bytes.{u16_at as u16_there, u32_at as u32_there};
-ghost use Rattle.alma_object_format.specs.Fault.{or_else};
+ghost use Rattle.alma_object_format.specs.Fault.{TellsFault, or_else};
 ghost use Rattle.alma_object_format.specs.Header.{IsWithin, header_of, magic_fault, version_fault, count_fault, counts_fault, header_fault, routines_at, globals_at, params_at, runs_at, ranges_at, texts_at, name_pool_at, text_pool_at, instrs_at, lines_at, end_at};
 
 use crate::bytes::{u16_at, u32_at};
 use crate::fault::ObjectFault;
+use alma_base::{INSTR_LIMIT, POOL_LIMIT, RECORD_LIMIT, SLOT_LIMIT};
+
+// The greatest number of routines.
+const ROUTINE_LIMIT: u32 = 262_144;
 
 /// The version, and how many records or bytes each section has.
 #[derive(Clone, Copy)]
@@ -107,10 +111,9 @@ impl Header {
 #[tactic(auto, unfolding(crate::specs::Header::count_fault))]
 fn read_count(bytes: &[u8], at: usize, greatest: u32) -> Result<u32, ObjectFault>
     requires { at < 2 ^ 32 }
-    ensures count { IfOk result (λ n. (n ≡ u32_there bytes.now at) × (n ≤ greatest) ×
-        (at + 4 ≤ length bytes.now)) }
-    ensures fault { MatchResult result (λ n. count_fault bytes.now at greatest ≡ None)
-        (λ fault. count_fault bytes.now at greatest ≡ Some fault) }
+    ensures count { IfOk result (λ n.
+        (n ≡ u32_there bytes.now at) × (n ≤ greatest) × (at + 4 ≤ length bytes.now)) }
+    ensures fault { TellsFault (count_fault bytes.now at greatest) result }
 {
     if bytes.len() < at + 4 {
         return Err(ObjectFault::Cut(bytes.len()));
@@ -124,11 +127,9 @@ fn read_count(bytes: &[u8], at: usize, greatest: u32) -> Result<u32, ObjectFault
 
 // The magic and the version.
 fn read_version(bytes: &[u8]) -> Result<u16, ObjectFault>
-    ensures version { IfOk result (λ v. (v ≡ u16_there bytes.now 8) ×
-        ((nat_eq v 1 || nat_eq v 2) ≡ true)) }
-    ensures fault { MatchResult result (λ v. or_else (magic_fault bytes.now)
-        (version_fault bytes.now) ≡ None) (λ fault. or_else (magic_fault bytes.now)
-        (version_fault bytes.now) ≡ Some fault) }
+    ensures version { IfOk result (λ v.
+        (v ≡ u16_there bytes.now 8) × ((nat_eq v 1 || nat_eq v 2) ≡ true)) }
+    ensures fault { TellsFault (or_else (magic_fault bytes.now) (version_fault bytes.now)) result }
 {
     if bytes.len() < 8 {
         return Err(ObjectFault::Cut(bytes.len()));
@@ -151,28 +152,27 @@ fn read_version(bytes: &[u8]) -> Result<u16, ObjectFault>
 fn read_counts(bytes: &[u8], version: u16) -> Result<Header, ObjectFault>
     requires version { version ≡ u16_there bytes.now 8 }
     requires known { (nat_eq version 1 || nat_eq version 2) ≡ true }
-    ensures header { IfOk result (λ h. (h ≡ header_of bytes.now) × IsWithin h ×
-        (routines_at h ≤ length bytes.now)) }
-    ensures fault { MatchResult result (λ h. counts_fault bytes.now ≡ None)
-        (λ fault. counts_fault bytes.now ≡ Some fault) }
+    ensures header { IfOk result (λ h.
+        (h ≡ header_of bytes.now) × IsWithin h × (routines_at h ≤ length bytes.now)) }
+    ensures fault { TellsFault (counts_fault bytes.now) result }
 {
-    let routines = read_count(bytes, 10, 262_144)?;
+    let routines = read_count(bytes, 10, ROUTINE_LIMIT)?;
     if routines == 0 {
         return Err(ObjectFault::BadCount(10));
     }
-    let globals = read_count(bytes, 14, 1_048_576)?;
-    let params = read_count(bytes, 18, 1_048_576)?;
-    let runs = read_count(bytes, 22, 8_388_608)?;
-    let ranges = read_count(bytes, 26, 1_048_576)?;
-    let texts = read_count(bytes, 30, 1_048_576)?;
-    let name_bytes = read_count(bytes, 34, 16_777_216)?;
-    let text_bytes = read_count(bytes, 38, 16_777_216)?;
+    let globals = read_count(bytes, 14, RECORD_LIMIT)?;
+    let params = read_count(bytes, 18, RECORD_LIMIT)?;
+    let runs = read_count(bytes, 22, SLOT_LIMIT)?;
+    let ranges = read_count(bytes, 26, RECORD_LIMIT)?;
+    let texts = read_count(bytes, 30, RECORD_LIMIT)?;
+    let name_bytes = read_count(bytes, 34, POOL_LIMIT)?;
+    let text_bytes = read_count(bytes, 38, POOL_LIMIT)?;
     if texts == 0 && text_bytes > 0 {
         return Err(ObjectFault::BadCount(38));
     }
-    let instrs = read_count(bytes, 42, 4_194_304)?;
+    let instrs = read_count(bytes, 42, INSTR_LIMIT)?;
     let lines = if version == 2 {
-        read_count(bytes, 46, 1_048_576)?
+        read_count(bytes, 46, RECORD_LIMIT)?
     } else {
         0
     };
@@ -194,10 +194,9 @@ fn read_counts(bytes: &[u8], version: u16) -> Result<Header, ObjectFault>
 /// The header of an object, or its first fault.
 #[tactic(auto, unfolding(crate::specs::Header::header_fault))]
 pub fn read_header(bytes: &[u8]) -> Result<Header, ObjectFault>
-    ensures header { IfOk result (λ h. (h ≡ header_of bytes.now) × IsWithin h ×
-        (routines_at h ≤ length bytes.now)) }
-    ensures fault { MatchResult result (λ h. header_fault bytes.now ≡ None)
-        (λ fault. header_fault bytes.now ≡ Some fault) }
+    ensures header { IfOk result (λ h.
+        (h ≡ header_of bytes.now) × IsWithin h × (routines_at h ≤ length bytes.now)) }
+    ensures fault { TellsFault (header_fault bytes.now) result }
 {
     let version = read_version(bytes)?;
     read_counts(bytes, version)

@@ -7,8 +7,11 @@ use Rattle.alma_code.specs.declared.head.CodeParam.{CodeParam}
 use Rattle.alma_code.specs.declared.head.ParamKind.{ParamKind}
 use Rattle.alma_code.specs.declared.head.ParamKind.TheVariants as param
 use Rattle.alma_code.specs.declared.head.Run.{Run}
+use Rattle.alma_code.specs.Head.{PlainHead}
 use Rattle.alma_code.specs.Kinds.{is_number, is_place_of, is_link_of}
+use Rattle.alma_code.specs.Layout.{RunsRise}
 use Rattle.alma_code.specs.Plain.{PlainGlobal}
+use Rattle.alma_code.specs.Rules.{last_end}
 
 -- what stands for a run that is not there
 abbrev pub no_run : Run
@@ -17,6 +20,10 @@ no_run = record { kind = slot.Number; end = 0 }
 -- what stands for a global that is not there
 abbrev pub no_global : PlainGlobal
 no_global = record { name = []; slot = 0; cells = 0 }
+
+-- its runs rise to the end of the last of them
+abbrev pub HasRisingRuns : PlainHead → Type 0
+HasRisingRuns h = RunsRise 0 h.runs (last_end 0 h.runs)
 
 -- the first slot of run i, where the first run begins at low
 abbrev pub begin_from : (low : ℕ) → List Run → (i : ℕ) → ℕ

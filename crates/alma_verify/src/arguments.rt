@@ -1,8 +1,7 @@
 // Whether slots can be the arguments of a routine.
 ghost use Rattle.std.specs.Prelude.{◌≡◌, ◌+◌, ◌&&◌, nat_lt};
-ghost use Rattle.alma_code.specs.Layout.{RunsRise, kinds_of};
-ghost use Rattle.alma_code.specs.Rules.{last_end};
-ghost use Rattle.alma_verify.specs.Runs.{Passes, fit_slots, takes as takes_spec};
+ghost use Rattle.alma_code.specs.Layout.{kinds_of};
+ghost use Rattle.alma_verify.specs.Runs.{HasRisingRuns, Passes, fit_slots, takes as takes_spec};
 
 use crate::halving::{kind_behind, next_passed, passed_runs};
 use crate::kinds::{is_link_of, is_number, is_place_of};
@@ -37,7 +36,7 @@ fn fits_one(routine: u32, first: u32, k: u32, param: CodeParam, kind: Option<Slo
 
 // How many runs end at or before the first argument.
 fn passed_first<H: Head>(caller: &H, first: u32) -> u32
-    requires rise { RunsRise 0 (H.head caller.now).runs (last_end 0 (H.head caller.now).runs) }
+    requires rise { HasRisingRuns (H.head caller.now) }
     ensures { Passes (H.head caller.now).runs (first + 0) result }
 {
     passed_runs(caller, u64::from(first))
@@ -47,7 +46,7 @@ fn passed_first<H: Head>(caller: &H, first: u32) -> u32
 /// the parameters, so that each parameter takes the same time.
 #[tactic(auto, using(crate::proofs::SlotRuns::slots_none))]
 pub fn fit_all<H: Head, K: Head>(caller: &H, called: &K, routine: u32, first: u32) -> bool
-    requires rise { RunsRise 0 (H.head caller.now).runs (last_end 0 (H.head caller.now).runs) }
+    requires rise { HasRisingRuns (H.head caller.now) }
     ensures { result ≡ fit_slots routine (kinds_of 0 (H.head caller.now).runs)
         (K.head called.now).params first }
 {

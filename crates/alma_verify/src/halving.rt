@@ -1,8 +1,8 @@
 // The run over a slot.
 ghost use Rattle.std.specs.Prelude.{◌≡◌, ◌<◌, ◌+◌, ◌-◌, ℕ, MatchOption, None, length, slice_get};
-ghost use Rattle.alma_code.specs.Layout.{RunsRise, kinds_of};
+ghost use Rattle.alma_code.specs.Layout.{kinds_of};
 ghost use Rattle.alma_code.specs.Rules.{last_end};
-ghost use Rattle.alma_verify.specs.Runs.{Covers, Passes};
+ghost use Rattle.alma_verify.specs.Runs.{Covers, HasRisingRuns, Passes};
 
 use alma_code::{Head, Run, SlotKind};
 
@@ -43,7 +43,7 @@ fn latest(count: u32, slot: u64) -> u32
 
 /// How many runs end at or before a slot, by halving those that the counts of runs and of slots leave.
 pub fn passed_runs<H: Head>(head: &H, slot: u64) -> u32
-    requires rise { RunsRise 0 (H.head head.now).runs (last_end 0 (H.head head.now).runs) }
+    requires rise { HasRisingRuns (H.head head.now) }
     ensures { Passes (H.head head.now).runs slot result }
 {
     let count = head.run_count();
@@ -66,7 +66,7 @@ pub fn passed_runs<H: Head>(head: &H, slot: u64) -> u32
 
 // The run behind those that end at or before a slot.
 fn covering<H: Head>(head: &H, passed: u32) -> Run
-    requires rise { RunsRise 0 (H.head head.now).runs (last_end 0 (H.head head.now).runs) }
+    requires rise { HasRisingRuns (H.head head.now) }
     requires some { passed < length (H.head head.now).runs }
     ensures { (slot : ℕ) → Passes (H.head head.now).runs slot passed
         → Covers (kinds_of 0 (H.head head.now).runs) slot result }
@@ -76,7 +76,7 @@ fn covering<H: Head>(head: &H, passed: u32) -> Run
 
 /// The run over a slot.
 pub fn run_at<H: Head>(head: &H, slot: u64) -> Option<Run>
-    requires rise { RunsRise 0 (H.head head.now).runs (last_end 0 (H.head head.now).runs) }
+    requires rise { HasRisingRuns (H.head head.now) }
     ensures { MatchOption result (slice_get (kinds_of 0 (H.head head.now).runs) slot ≡ None)
         (λ run. Covers (kinds_of 0 (H.head head.now).runs) slot run) }
 {
@@ -90,7 +90,7 @@ pub fn run_at<H: Head>(head: &H, slot: u64) -> Option<Run>
 
 /// The kind of the slot before which so many runs end.
 pub fn kind_behind<H: Head>(head: &H, passed: u32) -> Option<SlotKind>
-    requires rise { RunsRise 0 (H.head head.now).runs (last_end 0 (H.head head.now).runs) }
+    requires rise { HasRisingRuns (H.head head.now) }
     ensures { (slot : ℕ) → Passes (H.head head.now).runs slot passed
         → result ≡ slice_get (kinds_of 0 (H.head head.now).runs) slot }
 {
@@ -103,7 +103,7 @@ pub fn kind_behind<H: Head>(head: &H, passed: u32) -> Option<SlotKind>
 
 /// How many runs end at or before the slot first + k + 1, of which so many do at or before the slot first + k.
 pub fn next_passed<H: Head>(head: &H, first: u32, k: u32, passed: u32) -> u32
-    requires rise { RunsRise 0 (H.head head.now).runs (last_end 0 (H.head head.now).runs) }
+    requires rise { HasRisingRuns (H.head head.now) }
     requires passes { Passes (H.head head.now).runs (first + k) passed }
     ensures { Passes (H.head head.now).runs (first + (k + 1)) result }
 {

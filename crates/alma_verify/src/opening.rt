@@ -1,7 +1,8 @@
 // Views of objects, with the code that their bytes spell.
-ghost use Rattle.std.specs.Prelude.{◌≡◌, None, Some, IfOk, MatchResult};
+ghost use Rattle.std.specs.Prelude.{◌≡◌, IfOk};
 ghost use Rattle.alma_code.specs.Plain.{code_of};
 ghost use Rattle.alma_code.specs.Rules.{IsSound};
+ghost use Rattle.alma_object.specs.Fault.{TellsFault};
 ghost use Rattle.alma_object.specs.Object.{IsObject};
 ghost use Rattle.alma_object.specs.View.{code_of_view};
 ghost use Rattle.alma_object.specs.Walk.{object_fault};
@@ -15,8 +16,7 @@ use alma_object::{ObjectFault, ObjectView};
 
 /// The view of the bytes of an object, whose code is the one that they spell; or the first fault of bytes that are none.
 pub fn open_object<'b>(bytes: &'b [u8]) -> Result<ObjectView<'b>, ObjectFault>
-    ensures fault { MatchResult result (λ view. object_fault bytes.now ≡ None)
-        (λ fault. object_fault bytes.now ≡ Some fault) }
+    ensures fault { TellsFault (object_fault bytes.now) result }
     ensures object { IfOk result (λ view. IsObject (code_of_view view) bytes.now) }
     ensures code { IfOk result (λ view. code_of_view view ≡ object_code bytes.now) }
 {

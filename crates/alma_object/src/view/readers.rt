@@ -1,8 +1,9 @@
 // What a view reads.
-ghost use Rattle.std.specs.Prelude.{◌≡◌, ◌+◌, ◌<◌, ◌≤◌, length, slice_get, slice_range, option_map, Some, None, MatchResult, IfOk, IfSome};
+ghost use Rattle.std.specs.Prelude.{◌≡◌, ◌+◌, ◌<◌, ◌≤◌, length, slice_get, slice_range, option_map, Some, None, IfOk, IfSome};
 ghost use Rattle.alma_code.specs.Lines.{line_at as line_at_code};
 ghost use Rattle.alma_code.specs.Plain.{start_at};
 ghost use Rattle.alma_code.specs.Reads.{is_read as is_read_of, code_reads};
+ghost use Rattle.alma_object_format.specs.Fault.{TellsFault};
 ghost use Rattle.alma_object_format.specs.Object.{IsObject};
 ghost use Rattle.alma_object_format.specs.Reading.{name_in, text_in, routine_in, global_in};
 ghost use Rattle.alma_object_format.specs.Walk.{object_fault};
@@ -37,8 +38,7 @@ impl<'b> ObjectView<'b> {
     /// The view of the bytes of an object, or the first fault of bytes that are none.
     #[tactic(auto, unfolding(alma_object_format::specs::Walk::object_fault))]
     pub fn new(bytes: &'b [u8]) -> Result<ObjectView<'b>, ObjectFault>
-        ensures fault { MatchResult result (λ view. object_fault bytes.now ≡ None)
-            (λ fault. object_fault bytes.now ≡ Some fault) }
+        ensures fault { TellsFault (object_fault bytes.now) result }
         ensures object { IfOk result (λ view. IsObject (code_of_view view) bytes.now) }
     {
         let header = read_header(bytes)?;

@@ -5,10 +5,10 @@ use Rattle.alma_lower_sound.proofs.Counts.{code_keeps_counts, code_keeps_version
 use Rattle.alma_lower_sound.proofs.ReadsAlike.{reads_alike}
 use Rattle.alma_lower_sound.proofs.Records.{code_keeps_records}
 use Rattle.alma_lower_sound.proofs.Sound.{code_is_sound}
-use Rattle.alma_lower_templates.proofs.Law.{code_implements}
+use Rattle.alma_lower_templates.proofs.Law.{code_implements, code_keeps_values}
 use Rattle.alma_lower_templates.proofs.Sizes.{code_is_short}
 use Rattle.alma_lower.proofs.Naming.{keeps_names}
-use Rattle.alma_lower.proofs.Sharing.{implements_the_same, names_the_same, of_answer, of_answers}
+use Rattle.alma_lower.proofs.Sharing.{code_for_the_same, of_answer, of_answers}
 use Rattle.alma_lower.proofs.lowering.with_few_slots.Goals as goal
 
 pub share_slots-requires-clause-sound : goal.share_slots-requires-clause-sound
@@ -29,24 +29,19 @@ share_slots-requires-clause-records c =
 pub share_slots-requires-clause-version : goal.share_slots-requires-clause-version
 share_slots-requires-clause-version c = code_keeps_version _ _ c.in_ok-code.ensures.code
 
-pub returns-clause-implements : goal.returns-clause-implements
-returns-clause-implements c =
+pub returns-clause-code : goal.returns-clause-code
+returns-clause-code c =
+    let checked = c.requires.checked in
     let h = c.in_ok-code.ensures in
     let e = c.share_slots.ensures in
-    of_answers c.share_slots.result _ _ _
-    (λ new same tables. implements_the_same _ _ _ same tables (code_implements _ _ c.requires.checked h.integers h.code)) e.same e.tables
-
-pub returns-clause-names : goal.returns-clause-names
-returns-clause-names c =
-    let h = c.in_ok-code.ensures in
-    let e = c.share_slots.ensures in
-    of_answer c.share_slots.result _ _ (λ new tables. names_the_same _ _ _ tables (keeps_names _ _ h.code)) e.tables
-
-pub returns-clause-reads : goal.returns-clause-reads
-returns-clause-reads c =
-    let h = c.in_ok-code.ensures in
-    let e = c.share_slots.ensures in
-    of_answer c.share_slots.result _ _ (λ new reads. reads ∙ reads_alike _ _ h.code) e.reads
+    of_answers c.share_slots.result _ _ _ _ _
+    (λ new same tables sound reads. code_for_the_same _ _ _ same tables sound reads (record {
+      sound = code_is_sound _ _ checked h.code h.runs c.requires.size;
+      implements = code_implements _ _ checked h.integers h.code;
+      values = code_keeps_values _ _ checked h.integers h.code;
+      reads = reads_alike _ _ h.code;
+      names = keeps_names _ _ h.code;
+    })) e.same e.tables e.sound e.reads
 
 pub returns-clause-few : goal.returns-clause-few
 returns-clause-few c =
