@@ -8,8 +8,8 @@ use Rattle.alma_code.specs.Reads.{code_reads}
 use Rattle.alma_code.specs.TraceText.{value_of_name}
 use Rattle.alma_io.specs.Files.{Told, Has}
 use Rattle.alma_ir.specs.Tree.{Program}
-use Rattle.alma_lower.specs.Names.{KeepsNames}
-use Rattle.alma_lower_implements.specs.Implements.{Implements, line_in}
+use Rattle.alma_lower.specs.CodeFor.{IsCodeFor}
+use Rattle.alma_lower_implements.specs.Implements.{line_in}
 use Rattle.alma_plan.specs.Causes.{Causes}
 use Rattle.alma_plan.specs.Objects.{object_refusal}
 use Rattle.alma_io.specs.Outside.{Outside, IsUndisturbed}
@@ -19,7 +19,7 @@ use Rattle.alma_plan.proofs.SpelledObjects.{spelled_accepted, spelled_short}
 use Rattle.alma_plan.proofs.ToldLemmas.{fetch_comes, read_comes}
 use Rattle.alma_plan.proofs.UndisturbedLemmas.{call_shows_due}
 use Rattle.alma_run_laws.proofs.Meant.{code_shows}
-use Rattle.alma_run_laws.proofs.VariableLemmas.{variables_shown}
+use Rattle.alma_run_laws.proofs.VariableLemmas.{values_meant, variables_shown}
 use Rattle.alma_run_laws.specs.Shown.{shown_end}
 use Rattle.alma_run_laws.specs.Variables.{variable_word}
 use Rattle.alma_verify.specs.Bytes.{object_code}
@@ -34,27 +34,28 @@ use Rattle.alma_back.proofs.WordLemmas.{request_plan}
 -- ---- what lines show
 
 module _ (p : Program) where
-  -- the code implements the program and keeps its names, and the input is within its length
+  -- it is code of the program, and the input is within its length
   record IsRunOf (code : PlainCode) (input : List ℕ) : Type 0 where
-    implements : Implements code p
-    names : KeepsNames code p
+    code_for : IsCodeFor p code
     short : length input ≤ input_limit
 
-  shows_value : (s : Standing) (name : List ℕ) → KeepsNames s.code p → ShowsLine p s (Value name) (line_text s (Value name))
-  shows_value s name names =
+  shows_value : (s : Standing) (name : List ℕ) → IsRunOf s.code s.input → ShowsLine p s (Value name) (line_text s (Value name))
+  shows_value s name is =
       let value = value_of_name (state_of s).now s.code.globals name in
       let word : name ++ 61 ∷ value ≡ variable_word (state_of s).now p.globals name =
-      cc (variables_shown s.code p (name ∷ []) (state_of s) names) in
-      sym (append_assoc name (61 ∷ value) (codes "\n")) ∙ ap (λ (bytes : List ℕ). bytes ++ codes "\n") word
+      cc (variables_shown s.code p (name ∷ []) (state_of s) is.code_for.names) in (
+        sym (append_assoc name (61 ∷ value) (codes "\n")) ∙ ap (λ (bytes : List ℕ). bytes ++ codes "\n") word,
+        values_meant s.code p s.input s.steps name is.code_for.values is.short,
+      )
 
   shows_line : (s : Standing) (line : Line) → IsRunOf s.code s.input → ShowsLine p s line (line_text s line)
   shows_line s (Forward more) is = refl
   shows_line s (Backward less) is = refl
-  shows_line s (Value name) is = shows_value s name is.names
+  shows_line s (Value name) is = shows_value s name is
   shows_line s Output is = (
     output_of s,
     shown_end (state_of s).mode (line_in s.code (state_of s)),
-    code_shows s.code p s.input s.steps is.implements is.short,
+    code_shows s.code p s.input s.steps is.code_for.implements is.short,
     refl,
   )
 
@@ -134,6 +135,6 @@ walk_shows words p lines input before after status w causes calm =
     refl (λ reads. w.left (sym w.spells.code.reads ∙ reads)) read in (
       session code input lines,
       shows_lines p (standing_at_start code input) lines
-          (record { implements = w.spells.code.implements; names = w.spells.code.names; short = w.input_short }),
+          (record { code_for = w.spells.code; short = w.input_short }),
       subst (ShowsDue before after status) is h.3,
     )

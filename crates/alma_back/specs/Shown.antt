@@ -1,6 +1,8 @@
 -- What a call shows of a program that is walked, in the words of a reader of its meaning.
 use Rattle.std.specs.Prelude.{◌≡◌, ◌≤◌, List, ℕ, true, [], ◌∷◌, ◌++◌, codes, decimal, length, Ok, Some}
 use Rattle.alma_base.specs.Limits.{input_limit}
+use Rattle.alma_code.specs.declared.step.End.TheVariants as end
+use Rattle.alma_code.specs.Machine.{Ended}
 use Rattle.alma_io.specs.Files.{Has}
 use Rattle.alma_ir.specs.Tree.{Program}
 use Rattle.alma_lower_sound.specs.Reads.{program_reads}
@@ -10,7 +12,7 @@ use Rattle.alma_plan.specs.Plan.{prints}
 use Rattle.alma_plan.specs.Undisturbed.{ShowsDue}
 use Rattle.alma_run_laws.specs.Shown.{Shows}
 use Rattle.alma_run_laws.specs.Stored.{SpellsCodeOf}
-use Rattle.alma_run_laws.specs.Variables.{variable_word}
+use Rattle.alma_run_laws.specs.Variables.{IsMeantWord, variable_word}
 use Rattle.alma_verify.specs.Bytes.{object_code}
 use Rattle.alma_back.specs.Due.{script_limit}
 use Rattle.alma_back.specs.Script.{Line, Forward, Backward, Value, Output, lines_in}
@@ -34,12 +36,15 @@ pub record WalksProgram (words : List (List ℕ)) (before : Outside) (p : Progra
   pub left : program_reads p ≡ true → before.input.left ≡ Some input
   pub input_short : length input ≤ input_limit
 
--- What a line shows of a run of the program that stands there: the number of its steps; a variable of the program, by its cells there;
--- or how many bytes were printed: those that its meaning prints, or a front of them that so many steps show.
+-- What a line shows of a run of the program that stands there: the number of its steps; a variable of the program, by its cells there,
+-- and where the run has come to success what its meaning gives the variable; or how many bytes were printed: those that its meaning
+-- prints, or a front of them that so many steps show.
 abbrev pub ShowsLine : Program → Standing → Line → (text : List ℕ) → Type 0
 ShowsLine p s (Forward more) text = text ≡ at_text s
 ShowsLine p s (Backward less) text = text ≡ at_text s
-ShowsLine p s (Value name) text = text ≡ variable_word (state_of s).now p.globals name ++ codes "\n"
+ShowsLine p s (Value name) text =
+    (text ≡ variable_word (state_of s).now p.globals name ++ codes "\n")
+    × ((state_of s).mode ≡ Ended end.Succeeded → IsMeantWord p s.input s.steps name (variable_word (state_of s).now p.globals name))
 ShowsLine p s Output text =
     (printed : List ℕ) × (end : End) × Shows p s.input s.steps printed end
     × (text ≡ codes "printed " ++ (decimal (length printed) ++ codes "\n"))

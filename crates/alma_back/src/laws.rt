@@ -36,8 +36,8 @@ pub fn words_are_a_request_or_have_a_bad_word()
 {}
 
 /// A call that walks a program whose object `alma compile` stored, where memory is found and nothing fails outside, shows of each line,
-/// as the run of the object's code stands after it, the number of steps, the cells of a variable of the program, or how many bytes of
-/// what its meaning prints were printed.
+/// as the run of the object's code stands after it, the number of steps, the cells of a variable of the program, which at a success are
+/// those of its meaning, or how many bytes of what its meaning prints were printed.
 pub fn a_walk_shows_its_program()
     ensures shown { (words : List (List ℕ)) (p : Program) (lines : List Line) (input : List ℕ)
         (before after : Outside) (status : ℕ) (asks : WalksProgram words before p lines input)

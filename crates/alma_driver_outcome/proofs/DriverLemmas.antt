@@ -21,7 +21,7 @@ use Rattle.alma_code.specs.ListText.{list_text}
 use Rattle.alma_code.specs.Plain.{PlainCode}
 use Rattle.alma_code.specs.Reads.{code_reads}
 use Rattle.alma_code.specs.Records.{KeepsVersion, KeepsCounts, KeepsRecords}
-use Rattle.alma_code.specs.Rules.{IsSound, code_fault}
+use Rattle.alma_code.specs.Rules.{code_fault}
 use Rattle.alma_code.specs.declared.step.VerifyFault.{VerifyFault}
 use Rattle.alma_object_format.specs.declared.fault.ObjectFault.{ObjectFault}
 use Rattle.alma_object.specs.Object.{IsObject, object_bytes}
@@ -29,10 +29,8 @@ use Rattle.alma_object.specs.Fields.{FitsFields}
 use Rattle.alma_object.specs.Walk.{object_fault}
 use Rattle.alma_verify.specs.Bytes.{object_code}
 use Rattle.alma_lower.specs.declared.lowering.LowerError.{LowerError}
-use Rattle.alma_lower.specs.Names.{KeepsNames}
+use Rattle.alma_lower.specs.CodeFor.{IsCodeFor}
 use Rattle.alma_lower.specs.declared.lowering.LowerError.TheVariants as lower
-use Rattle.alma_lower_implements.specs.Implements.{Implements}
-use Rattle.alma_lower_sound.specs.Reads.{program_reads}
 use Rattle.alma_run_laws.specs.Shown.{size_of}
 use Rattle.alma_run_laws.proofs.Sizes.{not_lowered, refused_large}
 use Rattle.alma_run_laws.proofs.Told.{told_stays}
@@ -275,12 +273,11 @@ runs_refused p steps showing error i a (starved e) =
 
 -- a program that was compiled and run
 pub runs_compiled : (p : Program) (code : PlainCode) (steps : ℕ) (showing : Showing) (i j : SourceSide) (a b : SinkSide) (end : End)
-    → IsSound code → Implements code p
-    → code_reads code ≡ program_reads p → KeepsNames code p → size_of p ≤ size_limit
+    → IsCodeFor p code → size_of p ≤ size_limit
     → Runs (InputOutcome i.left code steps showing) i j a b end → Runs (ProgramOutcome i.left p steps showing) i j a b end
-runs_compiled p code steps showing i j a b end sound implements reads names within g =
+runs_compiled p code steps showing i j a b end is within g =
     runs_map (InputOutcome i.left code steps showing) (ProgramOutcome i.left p steps showing)
-    (λ due o. ran code within (record { sound = sound; implements = implements; reads = reads; names = names }) o) i j a b end g
+    (λ due o. ran code within is o) i j a b end g
 
 -- ---- listing
 
@@ -450,17 +447,14 @@ works_after P f m f' a b end s (inr (failed due stored o is gains fails e)) =
     ) e)
 
 -- a program that was compiled and stored
-pub works_compiled : (p : Program) (code : PlainCode) (object : List ℕ) (f f' : FilesSide) (a : SinkSide) (end : End) → IsSound code
-    → Implements code p
-    → code_reads code ≡ program_reads p → KeepsNames code p → KeepsVersion code → KeepsCounts code → KeepsRecords code → FitsFields code
-    → size_of p ≤ size_limit
+pub works_compiled : (p : Program) (code : PlainCode) (object : List ℕ) (f f' : FilesSide) (a : SinkSide) (end : End) → IsCodeFor p code
+    → KeepsVersion code → KeepsCounts code → KeepsRecords code → FitsFields code → size_of p ≤ size_limit
     → Works (IsStoring object (object_bytes code)) f f' a a end → Works (CompileOutcome p object) f f' a a end
-works_compiled p code object f f' a end sound implements reads names version counts records fits within w =
-    let is : IsObject code (object_bytes code) =
-    record { version = version; counts = counts; records = records; table = sound.table; spelled = refl } in
+works_compiled p code object f f' a end is version counts records fits within w =
+    let object_is : IsObject code (object_bytes code) =
+    record { version = version; counts = counts; records = records; table = is.sound.table; spelled = refl } in
     works_map (IsStoring object (object_bytes code)) (CompileOutcome p object)
-    (λ due e. made code (object_bytes code) within
-    (record { sound = sound; implements = implements; reads = reads; names = names }) is fits e) f f' a a end w
+    (λ due e. made code (object_bytes code) within is object_is fits e) f f' a a end w
 
 -- a program that was not compiled is not stored
 pub works_refused : (p : Program) (object : List ℕ) (error : LowerError) (f : FilesSide) (a : SinkSide) → IsUnlowered p error

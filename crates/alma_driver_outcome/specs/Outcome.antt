@@ -21,7 +21,7 @@ use Rattle.alma_driver_words.specs.Sample.{sample_text}
 use Rattle.alma_lower_sound.specs.Reads.{program_reads}
 use Rattle.alma_lower_implements.specs.Implements.{state_after, line_in}
 use Rattle.alma_run_laws.specs.Shown.{Shows, size_of}
-use Rattle.alma_run_laws.specs.Stored.{IsCodeFor}
+use Rattle.alma_lower.specs.CodeFor.{IsCodeFor}
 use Rattle.alma_driver_words.specs.Words.{Request, Check, Compile, Listing, Run, Exec, Trace, Sample, Asks, IsBadWord, default_steps}
 use Rattle.alma_driver_outcome.specs.Words.{read_by, limit_of, IsReadBy}
 use Rattle.alma_driver_outcome.specs.Showing.{Showing, Prints, Traces, counts_shown, text_shown}

@@ -15,7 +15,7 @@ use Rattle.alma_ir.specs.Tree.{Program}
 use Rattle.alma_plan.specs.Course.{Goes, cut_short, hungry, hungry_within, whole}
 use Rattle.alma_plan.specs.Plan.{Due, Ending}
 use Rattle.alma_plan.specs.Ends.{program_end, run_end}
-use Rattle.alma_run_laws.specs.Stored.{IsCodeFor}
+use Rattle.alma_lower.specs.CodeFor.{IsCodeFor}
 use Rattle.alma_plan.specs.Programs.{Runs, mode_end, code_due, IsRun, Means}
 
 module _ (program : List ℕ) (failed : Ending) where

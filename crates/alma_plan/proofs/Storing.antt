@@ -5,7 +5,7 @@ use Rattle.alma_code.specs.Records.{KeepsCounts, KeepsRecords, KeepsVersion}
 use Rattle.alma_ir.specs.Tree.{Program}
 use Rattle.alma_object_format.specs.Object.{IsObject, object_bytes}
 use Rattle.alma_io.specs.Outside.{StoredFile}
-use Rattle.alma_run_laws.specs.Stored.{IsCodeFor}
+use Rattle.alma_lower.specs.CodeFor.{IsCodeFor}
 
 -- the bytes under the name
 abbrev pub stored_as : (name bytes : List ℕ) → StoredFile

@@ -15,7 +15,7 @@ use Rattle.alma_lower_sound.specs.Reads.{program_reads}
 use Rattle.alma_object.specs.Fields.{FitsFields}
 use Rattle.alma_object_format.specs.Object.{IsObject}
 use Rattle.alma_run_laws.specs.Shown.{size_of, line_text}
-use Rattle.alma_run_laws.specs.Stored.{IsCodeFor}
+use Rattle.alma_lower.specs.CodeFor.{IsCodeFor}
 use Rattle.alma_source.specs.Texts.{refusal_text}
 use Rattle.alma_source.specs.Verdict.{Verdict, Accepted, Rejected, IsVerdict}
 use Rattle.alma_source.specs.declared.fault.SourceFault.{SourceFault}

@@ -12,7 +12,7 @@ ghost use Rattle.alma_lower_sound.specs.Reads.{program_reads};
 ghost use Rattle.alma_plan.specs.Course.{Follows, Goes};
 ghost use Rattle.alma_plan.specs.Plan.{Ending};
 ghost use Rattle.alma_plan.specs.Ends.{program_end, run_end};
-ghost use Rattle.alma_run_laws.specs.Stored.{IsCodeFor};
+ghost use Rattle.alma_lower.specs.CodeFor.{IsCodeFor};
 ghost use Rattle.alma_plan.specs.Programs.{IsRun, run_on as run_on_input, run_plan, sense};
 ghost use Rattle.alma_verify.specs.Verified.{code_of_verified};
 

@@ -8,7 +8,7 @@ ghost use Rattle.alma_ir.specs.View.{program_of};
 ghost use Rattle.alma_plan.specs.Course.{Follows};
 ghost use Rattle.alma_plan.specs.Plan.{Ending, Ends};
 ghost use Rattle.alma_plan.specs.Ends.{program_end};
-ghost use Rattle.alma_run_laws.specs.Stored.{IsCodeFor};
+ghost use Rattle.alma_lower.specs.CodeFor.{IsCodeFor};
 ghost use Rattle.alma_plan.specs.Programs.{Stores, sense, store_plan};
 ghost use Rattle.std.specs.Prelude.{List, ℕ};
 

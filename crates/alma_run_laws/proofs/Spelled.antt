@@ -10,7 +10,8 @@ use Rattle.alma_object.specs.Fields.{FitsFields}
 use Rattle.alma_object.proofs.Clean.{object_clean}
 use Rattle.alma_object.proofs.Again.{code_again}
 use Rattle.alma_verify.specs.Bytes.{object_code}
-use Rattle.alma_run_laws.specs.Stored.{IsCodeFor, SpellsCodeOf}
+use Rattle.alma_lower.specs.CodeFor.{IsCodeFor}
+use Rattle.alma_run_laws.specs.Stored.{SpellsCodeOf}
 
 -- the object of a code that fits is read back as that code
 pub spells_code : (p : Program) (code : PlainCode) (bytes : List ℕ) → IsCodeFor p code → IsObject code bytes → FitsFields code

@@ -11,7 +11,7 @@ returns-in-Ok-clause-course g c = λ out.
     works_compiled p (code_of c.in-Ok.code) c.args.object.now
     (g.F.Files.side c.args.files.now)
     (g.F.Files.side c.store_code.new.files)
-    out c.store_code.result made.sound made.implements made.reads made.names made.version made.counts made.records
+    out c.store_code.result made.code made.version made.counts made.records
     c.store_code.ensures.fields (compiled_within p c.in-Ok.code made.too_much) (c.store_code.ensures.course out)
 
 pub returns-in-Err-clause-course : goal.returns-in-Err-clause-course

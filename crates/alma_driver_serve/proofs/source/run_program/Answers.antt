@@ -11,7 +11,7 @@ returns-in-Ok g c =
     runs_compiled p (code_of c.in-Ok.code) c.args.steps (shown_of c.args.showing) (g.I.Source.side c.args.input.now)
     (g.I.Source.side c.run_code.new.input) (g.O.Sink.side c.args.out.now)
     (g.O.Sink.side c.run_code.new.out) c.run_code.result
-    c.in-Ok.ensures.sound c.in-Ok.ensures.implements c.in-Ok.ensures.reads c.in-Ok.ensures.names
+    c.in-Ok.ensures.code
     (compiled_within p c.in-Ok.code c.in-Ok.ensures.too_much) c.run_code.ensures
 
 pub returns-in-Err : goal.returns-in-Err

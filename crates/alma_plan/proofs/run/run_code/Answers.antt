@@ -1,6 +1,6 @@
 use Rattle.std.proofs.Common.{sym, subst, ◌∙◌}
 use Rattle.alma_plan.proofs.Courses.{course_starved}
-use Rattle.alma_run_laws.specs.Stored.{IsCodeFor}
+use Rattle.alma_lower.specs.CodeFor.{IsCodeFor}
 use Rattle.alma_plan.proofs.run.run_code.Goals as goal
 
 pub open_encoded-verified-requires-clause-object : goal.open_encoded-verified-requires-clause-object

@@ -9,7 +9,7 @@ returns-in-Ok g c = λ program failed files.
     let p = program_of c.args.program.now in
     let e = c.in-Ok.ensures in
     course_within program failed p _ files _ _ _ _ _ _ (compiled_within p c.in-Ok.code e.too_much)
-    (c.run_code.ensures p (record { sound = e.sound; implements = e.implements; reads = e.reads; names = e.names }) program failed files)
+    (c.run_code.ensures p e.code program failed files)
 
 pub returns-in-Err-TooMuchCode : goal.returns-in-Err-TooMuchCode
 returns-in-Err-TooMuchCode g c = λ program failed files.
