@@ -1,4 +1,4 @@
--- The code of a checked program implements it.
+-- The code of a checked program implements it, and its variables hold at a success what the meaning gives them.
 use Rattle.std.proofs.Common.{◌≡◌, ℕ, zero, suc, ◌+◌, ◌<◌, ◌≤◌, ℤ, Bool, true, false, List, [], ◌∷◌, length, get_or, Some, None, Option}
 use Rattle.std.proofs.Common.{refl, sym, ap, ◌∙◌, subst, arith}
 use Rattle.std.specs.Prelude.{slice_get, int_le, IsNone}
@@ -26,12 +26,15 @@ use Rattle.alma_mean.specs.Events.{Events, NoYield, Go, first, end_of}
 use Rattle.alma_mean.specs.Events as events
 use Rattle.alma_mean.specs.Meaning as meaning
 use Rattle.alma_mean.specs.Meaning.{level, level_0, ev_program}
+use Rattle.alma_mean.specs.Store.{Store}
 use Rattle.alma_base.specs.Limits.{input_limit}
 use Rattle.alma_lower_implements.specs.Implements.{ComesTo, Implements, line_in, state_after, printed_by}
+use Rattle.alma_lower_implements.specs.Values.{first_store, HoldsValues, KeepsValues}
 use Rattle.alma_lower_implements.proofs.Follows.{AgreesFrom, EndsWell, follows}
-use Rattle.alma_lower_implements.proofs.Frames.{own_end}
-use Rattle.alma_lower_implements.proofs.Goes.{IsGoing, weaker, node_goes}
+use Rattle.alma_lower_implements.proofs.Frames.{own_end, IsAt, StandFor}
+use Rattle.alma_lower_implements.proofs.Goes.{IsGoing, Goes, weaker, node_goes}
 use Rattle.alma_lower_implements.proofs.Steps.{return_ends}
+use Rattle.alma_lower_implements.proofs.Succeeds.{EndsWith, succeeds}
 use Rattle.alma_lower_implements.proofs.Ways.{Ways, Leaves}
 use Rattle.alma_lower_templates.specs.Tables.{Tables}
 use Rattle.alma_lower_templates.specs.Slots.{routine_kinds, own_kinds}
@@ -47,6 +50,7 @@ use Rattle.alma_lower_templates.proofs.Parts.{ending, ResultIs}
 use Rattle.alma_lower_templates.proofs.Premises.{variables_are, params_are, body_slots, flat_body, position_kind}
 use Rattle.alma_lower_templates.proofs.Returning.{routine_runs, routine_cut, routine_ends, body_code_of}
 use Rattle.alma_lower_templates.proofs.Starting.{start_begins}
+use Rattle.alma_lower_templates.proofs.Values.{return_keeps, values_held}
 use Rattle.alma_lower_templates.proofs.Whole.{routine_stands}
 
 -- ---- numbers
@@ -171,11 +175,11 @@ module _ (p : Program) (tables : Tables) (all : List (List Run)) (count : length
 
   -- ---- the whole run
 
-  frames : List PlainFrame
+  abbrev frames : List PlainFrame
   frames = start_frame (head_at code 0) ∷ []
 
   abbrev main_ways : Ways NoYield
-  main_ways = ending p code input true (own_end p 0) 0 (start_frame (head_at code 0) ∷ [])
+  main_ways = ending p code input true (own_end p 0) 0 frames
 
   -- the machine ends at a Return of the frame of the module
   return_here : (t : State) (held : List PlainEntry) → IsGoing held t → slice_get code.instrs t.at ≡ Some I.Return → length t.now ≡ 1
@@ -204,23 +208,75 @@ module _ (p : Program) (tables : Tables) (all : List (List Run)) (count : length
   comes_to n Failing line printed h = record { visits = h.visits; front = h.front; enough = omega (arith, h.paid, mul-div-le n 32) }
   comes_to n Stuck line printed h = record { visits = h.visits; front = h.front; enough = omega (arith, h.paid, mul-div-le n 32) }
 
-  pub all_steps : (n : ℕ) → ComesTo (state_after code input n).mode (line_in code (state_after code input n)) (printed_by code input n) p
-      input n
-  all_steps n =
+  -- the body of the module runs to the Return at its end
+  record MainGoes (n : ℕ) : Type 0 where
+    exit : ℕ
+    there : slice_get code.instrs exit ≡ Some I.Return
+    goes : Goes code input 0 8 0 (Leaves exit main_ways) [] (ev_program (suc n) p input) (start code) 0 (suc n)
+
+  main_goes : (n : ℕ) → MainGoes n
+  main_goes n =
       let main = (known_at (suc n)).routines 0 checked.body.0 in
       let e : Events NoYield = (level p input (suc n)).routine 0 (meaning.start p) in
       let fits = Leaves main.exit main_ways in
       let begun = start_begins p tables code all refl count names checked input in
-      let there : slice_get code.instrs main.exit ≡ Some I.Return =
-      subst (EndsAt p tables code input (level p input (suc n)) 0 main.exit) no_result main.ends in
-      let goes = main.runs 0 (meaning.start p) (start_frame (head_at code 0) ∷ []) begun 8 (omega arith) [] (start code)
+      let goes = main.runs 0 (meaning.start p) frames begun 8 (omega arith) [] (start code)
       (record { mode = refl; here = refl; frames = refl; entries = refl }) in
-      let as_node = node_goes code input 0 8 8 0 fits [] e (start code) 0 (suc n) (omega arith)
-      (weaker code input 0 8 0 fits [] e (start code) 32 8 (suc n) (suc n) (omega arith) (omega arith) goes) in
+      record {
+        exit = main.exit;
+        there = subst (EndsAt p tables code input (level p input (suc n)) 0 main.exit) no_result main.ends;
+        goes = node_goes code input 0 8 8 0 fits [] e (start code) 0 (suc n) (omega arith)
+            (weaker code input 0 8 0 fits [] e (start code) 32 8 (suc n) (suc n) (omega arith) (omega arith) goes);
+      }
+
+  pub all_steps : (n : ℕ) → ComesTo (state_after code input n).mode (line_in code (state_after code input n)) (printed_by code input n) p
+      input n
+  all_steps n =
+      let main = main_goes n in
       comes_to n (state_after code input n).mode (line_in code (state_after code input n)) (printed_by code input n)
-      (follows code input 8 fits (ev_program (suc n) p input) (start code) 0 (suc n) n (omega arith) (ends_well main.exit there) as_node)
+      (follows code input 8 (Leaves main.exit main_ways) (ev_program (suc n) p input) (start code) 0 (suc n) n (omega arith)
+      (ends_well main.exit main.there) main.goes)
+
+  -- ---- what the variables hold
+
+  -- the last step keeps the frames, which stand for the store of the alternative
+  values_here : (t : State) (held : List PlainEntry) → IsGoing held t → slice_get code.instrs t.at ≡ Some I.Return → length t.now ≡ 1
+      → (v : Store) → StandFor p code v t.now
+      → ((step code input t).state.mode ≡ Ended end.Succeeded) × HoldsValues p v (step code input t).state.now
+  values_here t held going there one v stand =
+      let variables = variables_are p tables code all refl count names checked input in
+      let flat = flat_body p tables code all refl count names checked input in
+      let is : IsAt t.at t.now held t = record { mode = going.mode; here = refl; frames = refl; entries = going.entries } in
+      let kept : (step code input t).state.now ≡ t.now =
+      return_keeps p code input (line_at code t.at) t.at t.now held t is (record { instr = there; on_line = refl }) one in
+      let values : HoldsValues p v t.now =
+      values_held p code input v t.now stand flat (λ from cells h free. variables 0 from cells checked.body.0 h (λ e. free))
+      checked.globals in
+      ((return_here t held going there one).0, subst (HoldsValues p v) (sym kept) values)
+
+  ends_with_values : (exit : ℕ) → slice_get code.instrs exit ≡ Some I.Return
+      → EndsWith code input (Leaves exit main_ways) (HoldsValues p)
+  ends_with_values exit there v (Go y) t held going left =
+      values_here t held going (ap (slice_get code.instrs) left.0 ∙ there) left.1.fits.same_count v left.1.fits.stand
+  ends_with_values exit there v (events.Return None) t held going left =
+      values_here t held going left.2.there left.1.fits.same_count v left.1.fits.stand
+  ends_with_values exit there v (events.Return (Some m)) t held going left =
+      absurd (subst (λ o. ResultIs p code input o (Some m)) no_result left.2.result)
+
+  pub all_values : (n : ℕ) → (state_after code input n).mode ≡ Ended end.Succeeded
+      → (s : Store) × (first_store (ev_program (suc n) p input) ≡ Some s) × HoldsValues p s (state_after code input n).now
+  all_values n ended =
+      let main = main_goes n in
+      succeeds code input 8 (Leaves main.exit main_ways) (HoldsValues p) (ev_program (suc n) p input) (start code) 0 (suc n) n (omega arith)
+      (ends_with_values main.exit main.there) main.goes ended
 
 pub code_implements : (p : Program) (code : PlainCode) → IsChecked p → IsOfIntegers p → IsCodeOf p code → Implements code p
 code_implements p code checked integers is_code =
     subst (λ c. Implements c p) (sym is_code.is)
     (λ input lawful n. all_steps p is_code.tables is_code.runs is_code.count is_code.names checked is_code.held integers input lawful n)
+
+pub code_keeps_values : (p : Program) (code : PlainCode) → IsChecked p → IsOfIntegers p → IsCodeOf p code → KeepsValues code p
+code_keeps_values p code checked integers is_code =
+    subst (λ c. KeepsValues c p) (sym is_code.is)
+    (λ input lawful n ended.
+    all_values p is_code.tables is_code.runs is_code.count is_code.names checked is_code.held integers input lawful n ended)

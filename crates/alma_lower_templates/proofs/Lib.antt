@@ -50,6 +50,7 @@ pub mod Asked
 pub mod Levels
 pub mod Induction
 pub mod Premises
+pub mod Values
 pub mod Law
 pub mod Exists
 pub mod FewInstrs

@@ -5,6 +5,7 @@ ghost use Rattle.alma_ir.specs.Checked.{IsChecked};
 ghost use Rattle.alma_ir.specs.Count.{nodes};
 ghost use Rattle.alma_ir.specs.Tree.{Program};
 ghost use Rattle.alma_lower_implements.specs.Implements.{Implements};
+ghost use Rattle.alma_lower_implements.specs.Values.{KeepsValues};
 ghost use Rattle.alma_lower_templates.specs.CodeOf.{IsCodeOf, IsOfIntegers};
 ghost use Rattle.alma_lower_templates.specs.Stands.{HoldsAll};
 
@@ -20,6 +21,13 @@ pub fn code_has_its_lines()
 pub fn code_of_a_checked_program_implements_it()
     ensures { (p : Program) (code : PlainCode) → IsChecked p → IsOfIntegers p → IsCodeOf p code
         → Implements code p }
+{}
+
+/// Where a run of this code has come to success, the variables of the module hold what the meaning of the program gives them.
+#[tactic(auto, using(crate::proofs::Law::code_keeps_values))]
+pub fn code_of_a_checked_program_keeps_its_values()
+    ensures { (p : Program) (code : PlainCode) → IsChecked p → IsOfIntegers p → IsCodeOf p code
+        → KeepsValues code p }
 {}
 
 /// Each program has such a code.
