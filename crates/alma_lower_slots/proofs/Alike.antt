@@ -6,9 +6,10 @@ use Rattle.alma_code.specs.declared.cell.Cell.TheVariants as cell
 use Rattle.alma_code.specs.declared.cell.CellPlace.{CellPlace}
 use Rattle.alma_code.specs.declared.instr.Instr.{Instr}
 use Rattle.alma_code.specs.declared.instr.Instr.TheVariants as I
+use Rattle.alma_code.specs.declared.step.End.TheVariants as end
 use Rattle.alma_code.specs.Fits.{routines_of}
 use Rattle.alma_code.specs.Kinds.{is_number}
-use Rattle.alma_code.specs.Machine.{Going, State, StepResult}
+use Rattle.alma_code.specs.Machine.{Mode, Going, Failing, Ended, Stuck, State, StepResult}
 use Rattle.alma_code.specs.Picture.{PlainFrame, PlainEntry, no_frame, no_entry}
 use Rattle.alma_code.specs.Plain.{PlainCode, kinds_at, end_at}
 use Rattle.alma_code.specs.Rules.{kind_in}
@@ -36,6 +37,15 @@ module _ (s : Sharing) where
     pub held : (h : ℕ) → h < length t.held → OwnPlaces (get_or t.held h no_entry).frames
 
 -- ---- of both
+
+-- in this mode the frames of a machine matter: it goes on, or it has come to success
+abbrev pub FramesMatter : Mode → Type 0
+FramesMatter Going = Unit {0}
+FramesMatter (Ended end.Succeeded) = Unit {0}
+FramesMatter (Ended end.Failed) = ⊥
+FramesMatter (Ended (end.Fault f)) = ⊥
+FramesMatter Failing = ⊥
+FramesMatter Stuck = ⊥
 
 module _ (code new : PlainCode) (s : Sharing) where
   -- slot n of frame f is to be the same in both, where the top frame goes on at the address: a slot that is kept, one that is live
@@ -93,10 +103,10 @@ module _ (code new : PlainCode) (s : Sharing) where
     pub fails : t'.fails ≡ t.fails
     pub held : AlikeHeld t.held t'.held
 
-  -- two states: their frames matter only where the machine goes on
+  -- two states: their frames are alike where they matter
   pub record Alike (t t' : State) : Type 0 where
     pub rest : AlikeRest t t'
-    pub now : t.mode ≡ Going → AlikeFrames t.at t.now t'.now
+    pub now : FramesMatter t.mode → AlikeFrames t.at t.now t'.now
 
   -- two states in which an instruction is taken: they go on behind its address, and their frames are as they were at it
   pub record Taken (at : ℕ) (t t' : State) : Type 0 where

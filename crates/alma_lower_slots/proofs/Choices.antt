@@ -175,7 +175,7 @@ module _ {code new : PlainCode} {s : Sharing} where
   -- a pop of the entries that are left
   popped_or_end_alike : (t t' : State) (held held' : List PlainEntry) → t.held ≡ held → t'.held ≡ held' → AlikeRest code new s t t'
       → AlikeStep code new s (pop_or_end t held) (pop_or_end t' held')
-  popped_or_end_alike t t' [] [] e e' h = ended_alike end.Failed h
+  popped_or_end_alike t t' [] [] e e' h = ended_alike end.Failed h (λ m. absurd m)
   popped_or_end_alike t t' [] (x' ∷ xs') e e' h = absurd (omega (arith, h.held.count, ap length e, ap length e'))
   popped_or_end_alike t t' (x ∷ xs) [] e e' h = absurd (omega (arith, h.held.count, ap length e, ap length e'))
   popped_or_end_alike t t' (x ∷ xs) (x' ∷ xs') e e' h =

@@ -40,6 +40,7 @@ pub mod Slices
 pub mod SoFar
 pub mod SoundRenamed
 pub mod Stacks
+pub mod Variables
 pub mod Whole
 pub mod WholeShared
 pub mod WordsRenamed

@@ -16,10 +16,11 @@ use Rattle.alma_code_laws.proofs.Runs.{first_number, start_fits, stays_fit}
 use Rattle.alma_lower_slots.specs.Slots.{rename_slots}
 use Rattle.alma_lower_slots.specs.Sharing.{Sharing}
 use Rattle.alma_lower_slots.specs.Same.{DoesTheSame}
-use Rattle.alma_lower_slots.proofs.Alike.{OwnState, Alike, AlikeStep, Doing}
+use Rattle.alma_lower_slots.proofs.Alike.{OwnState, FramesMatter, Alike, AlikeStep, Doing}
 use Rattle.alma_lower_slots.proofs.Based.{BasedState}
 use Rattle.alma_lower_slots.proofs.Settles.{Shared}
 use Rattle.alma_lower_slots.proofs.Forms.{OthersAlike, act_alike}
+use Rattle.alma_lower_slots.proofs.Variables.{variables_alike}
 
 -- what else is known of the two machines: of pops, of the forms of choices and calls, of the start, and of places and bases of the first
 pub record Known (code new : PlainCode) (s : Sharing) : Type 0 where
@@ -70,7 +71,7 @@ module _ (code new : PlainCode) (s : Sharing) (w : Shared code new s) (known : K
           };
           going = going;
           behind = next;
-          now = h.now going;
+          now = h.now (subst FramesMatter (sym going) tt);
         };
         here = record { ready = ready; at_is = next; low = low; first = first_number code sound };
         routine = lr;
@@ -121,6 +122,11 @@ module _ (code new : PlainCode) (s : Sharing) (w : Shared code new s) (known : K
       after_alike n (step code input t).state (step new input t').state (stays_fit code input w.sound t fit)
       (known.own_step input t fit own) (known.based_step input t fit based) (step_alike t t' fit own based h).state
 
+  -- the state after n steps fits
+  after_fits : (n : ℕ) (t : State) → Fits code t → Fits code (after code input n t)
+  after_fits zero t fit = fit
+  after_fits (suc n) t fit = after_fits n (step code input t).state (stays_fit code input w.sound t fit)
+
   -- what n steps print
   pub prints_alike : (n : ℕ) (t t' : State) → Fits code t → OwnState s t → BasedState code t → Alike code new s t t'
       → prints new input n t' ≡ prints code input n t
@@ -144,4 +150,10 @@ module _ (code new : PlainCode) (s : Sharing) (w : Shared code new s) (known : K
             known.start_alike).rest.last;
         printed = λ input n. prints_alike code new s w known input n (start code) (start new) fits known.own_start known.based_start
             known.start_alike;
+        variables = λ input n succeeded.
+            let h = after_alike code new s w known input n (start code) (start new) fits known.own_start known.based_start
+            known.start_alike in
+            variables_alike code new s w (after code input n (start code)).at (after code input n (start code)).now
+            (after new input n (start new)).now (after_fits code new s w known input n (start code) fits).frames
+            (h.now (subst FramesMatter (sym succeeded) tt));
       }

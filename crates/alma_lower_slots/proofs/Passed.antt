@@ -1,11 +1,13 @@
 -- What is promised of a code whose slots are shared.
 use Rattle.std.proofs.Common.{◌≡◌, refl, sym, subst}
+use Rattle.alma_code.specs.Machine.{start, after}
 use Rattle.alma_code.specs.Plain.{PlainCode}
 use Rattle.alma_code.specs.Reads.{code_reads}
 use Rattle.alma_code.specs.Records.{KeepsCounts, KeepsRecords, KeepsVersion}
 use Rattle.alma_code.specs.Rules.{IsSound}
 use Rattle.alma_lower_slots.specs.Same.{DoesTheSame, KeepsTables}
 use Rattle.alma_lower_slots.specs.Inner.Shared.{IsSharedOf}
+use Rattle.alma_lower_slots.proofs.Variables.{hold_themselves}
 use Rattle.alma_lower_slots.proofs.Whole.{renamed_does_the_same}
 use Rattle.alma_lower_slots.proofs.RecordsRenamed.{renamed_keeps_counts, renamed_keeps_records, renamed_keeps_version, renamed_names}
 use Rattle.alma_lower_slots.proofs.RecordsRenamed.{renamed_reads}
@@ -24,7 +26,12 @@ pub record IsPassed (code new : PlainCode) : Type 0 where
 -- of a code as it is
 pub passed_as_is : (code : PlainCode) → IsSound code → KeepsCounts code → KeepsRecords code → KeepsVersion code → IsPassed code code
 passed_as_is code sound counts records version = record {
-  same = record { mode = λ input n. refl; last = λ input n. refl; printed = λ input n. refl };
+  same = record {
+    mode = λ input n. refl;
+    last = λ input n. refl;
+    printed = λ input n. refl;
+    variables = λ input n succeeded. hold_themselves code.globals (after code input n (start code)).now;
+  };
   sound = sound;
   counts = counts;
   records = records;

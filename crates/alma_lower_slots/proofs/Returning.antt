@@ -30,6 +30,7 @@ use Rattle.alma_lower_slots.proofs.Frames.{SameCalls, written_calls, due_across,
 use Rattle.alma_lower_slots.proofs.Frames.{frame_beside}
 use Rattle.alma_lower_slots.proofs.Settles.{Shared, ended_alike, top_alike, number_alike, to_number_alike}
 use Rattle.alma_lower_slots.proofs.Calling.{choices_alike}
+use Rattle.alma_lower_slots.proofs.Choices.{going_alike}
 
 module _ (code new : PlainCode) (s : Sharing) where
   -- what is due below a frame that was left was due before, but for the slot that its Call writes
@@ -246,12 +247,12 @@ module _ (code new : PlainCode) (s : Sharing) (w : Shared code new s) where
   -- a Return
   pub return_alike : (input : List ℕ) (r at : ℕ) (t t' : State) → Doing code new s r at I.Return t t'
       → AlikeStep code new s (act code input I.Return t) (act new input (rename_slots (s.slot r) I.Return) t')
-  unfolding act rename_slots rule_12
+  unfolding act rename_slots target_slot rule_12
   return_alike input r at t t' d =
       let now = d.taken.now in
       let back = (top_alike d).back in
       choices_alike code new s (nat_eq (length t.now) 1) (nat_eq (length t'.now) 1) _ _ _ _ (ap (λ n. nat_eq n 1) now.count)
-      (λ _. ended_alike end.Succeeded d.taken.rest)
+      (λ _. ended_alike end.Succeeded d.taken.rest (λ _. going_alike d refl))
       (λ b.
       let ne = eqb-false (length t.now) 1 b in
       let l = left_ready code r t d.here.ready (omega (arith, d.here.ready.frames.some)) in

@@ -20,13 +20,14 @@ use Rattle.alma_code.specs.Picture.{no_frame, frames_with_cell, last_frame}
 use Rattle.alma_code.specs.Plain.{PlainCode, kinds_at}
 use Rattle.alma_code.specs.Rules.{IsSound}
 use Rattle.alma_code.specs.Fits.{routines_of, FitsFrame}
-use Rattle.alma_code.specs.Machine.{State, StepResult, quiet_step, gets_stuck}
+use Rattle.alma_code.specs.Machine.{Ended, State, StepResult, quiet_step, gets_stuck}
 use Rattle.alma_code.specs.Machine.{ends_run, ends_in_fault, fails_now, goes_to, top, slot_of, kind_of, as_number, as_place, as_mark}
 use Rattle.alma_code.specs.Machine.{number, place, mark, link, with_slot, to_number, to_place, to_mark, to_link, put_number, put_place}
 use Rattle.alma_code.specs.Machine.{put_mark, put_link, link_to}
 use Rattle.alma_lower_slots.specs.Slots.{target_slot, away}
 use Rattle.alma_lower_slots.specs.Sharing.{Sharing, matters, Shares, Renames}
-use Rattle.alma_lower_slots.proofs.Alike.{IsDue, is_kept, on_top, below, AlikeFrame, AlikeFrames, AlikeRest, AlikeStep, Doing}
+use Rattle.alma_lower_slots.proofs.Alike.{FramesMatter, IsDue, is_kept, on_top, below, AlikeFrame, AlikeFrames, AlikeRest, AlikeStep}
+use Rattle.alma_lower_slots.proofs.Alike.{Doing}
 use Rattle.alma_lower_slots.proofs.Frames.{frames_fewer, frames_alike_written}
 
 -- a sound code whose slots may be shared, and what becomes of it
@@ -58,13 +59,14 @@ module _ {code new : PlainCode} {s : Sharing} where
         fails = h.fails;
         held = h.held;
       };
-      now = λ e. absurd (cc);
+      now = λ e. absurd e;
     };
   }
 
   -- the runs end
-  pub ended_alike : {t t' : State} (e : End) → AlikeRest code new s t t' → AlikeStep code new s (ends_run e t) (ends_run e t')
-  ended_alike e h = record {
+  pub ended_alike : {t t' : State} (e : End) → AlikeRest code new s t t'
+      → (FramesMatter (Ended e) → AlikeFrames code new s t.at t.now t'.now) → AlikeStep code new s (ends_run e t) (ends_run e t')
+  ended_alike e h now = record {
     answer = refl;
     printed = refl;
     state = record {
@@ -77,14 +79,14 @@ module _ {code new : PlainCode} {s : Sharing} where
         fails = h.fails;
         held = h.held;
       };
-      now = λ e. absurd (cc);
+      now = now;
     };
   }
 
   -- the runs end in a fault
   pub fault_alike : {t t' : State} (f : RunFault) → AlikeRest code new s t t'
       → AlikeStep code new s (ends_in_fault f t) (ends_in_fault f t')
-  fault_alike f h = ended_alike (end.Fault f) h
+  fault_alike f h = ended_alike (end.Fault f) h (λ e. absurd e)
 
   -- the states fail
   pub fails_alike : {t t' : State} → AlikeRest code new s t t' → AlikeStep code new s (fails_now t) (fails_now t')
@@ -101,7 +103,7 @@ module _ {code new : PlainCode} {s : Sharing} where
         fails = h.fails;
         held = h.held;
       };
-      now = λ e. absurd (cc);
+      now = λ e. absurd e;
     };
   }
 
