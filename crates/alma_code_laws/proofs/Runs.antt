@@ -99,7 +99,7 @@ module _ (code : PlainCode) (sound : IsSound code) where
     step_good s h = step_in_good s.mode s refl h.frames h.held h.mode
 
     -- the state after n steps fits
-    after_fits : (n : ℕ) (s : State) → Fits code s → Fits code (after code input n s)
+    pub after_fits : (n : ℕ) (s : State) → Fits code s → Fits code (after code input n s)
     after_fits zero s h = h
     after_fits (suc n) s h = after_fits n (step code input s).state (step_good s h)
 

@@ -12,7 +12,7 @@ use Rattle.alma_code.specs.Machine.{prints, start, pop}
 use Rattle.alma_code.proofs.Tables.{end_inside}
 use Rattle.alma_code_laws.proofs.Ready.{Ready}
 use Rattle.alma_code_laws.proofs.Acts.{obeys}
-use Rattle.alma_code_laws.proofs.Runs.{first_number, start_fits, stays_fit}
+use Rattle.alma_code_laws.proofs.Runs.{first_number, start_fits, stays_fit, after_fits}
 use Rattle.alma_lower_slots.specs.Slots.{rename_slots}
 use Rattle.alma_lower_slots.specs.Sharing.{Sharing}
 use Rattle.alma_lower_slots.specs.Same.{DoesTheSame}
@@ -122,11 +122,6 @@ module _ (code new : PlainCode) (s : Sharing) (w : Shared code new s) (known : K
       after_alike n (step code input t).state (step new input t').state (stays_fit code input w.sound t fit)
       (known.own_step input t fit own) (known.based_step input t fit based) (step_alike t t' fit own based h).state
 
-  -- the state after n steps fits
-  after_fits : (n : ℕ) (t : State) → Fits code t → Fits code (after code input n t)
-  after_fits zero t fit = fit
-  after_fits (suc n) t fit = after_fits n (step code input t).state (stays_fit code input w.sound t fit)
-
   -- what n steps print
   pub prints_alike : (n : ℕ) (t t' : State) → Fits code t → OwnState s t → BasedState code t → Alike code new s t t'
       → prints new input n t' ≡ prints code input n t
@@ -154,6 +149,6 @@ module _ (code new : PlainCode) (s : Sharing) (w : Shared code new s) (known : K
             let h = after_alike code new s w known input n (start code) (start new) fits known.own_start known.based_start
             known.start_alike in
             variables_alike code new s w (after code input n (start code)).at (after code input n (start code)).now
-            (after new input n (start new)).now (after_fits code new s w known input n (start code) fits).frames
+            (after new input n (start new)).now (after_fits code w.sound input n (start code) fits).frames
             (h.now (subst FramesMatter (sym succeeded) tt));
       }
