@@ -41,18 +41,22 @@ names_the_same code new p tables names = record {
 values_over : (gs : List Global) (s : Store) (frames frames' : List PlainFrame)
     → AllByRecursion (λ g. (k : ℕ) → k < g.cells → cell_at frames' 0 (g.slot + k) cell.Unknown ≡ cell_at frames 0 (g.slot + k) cell.Unknown)
     (map variable_of gs)
-    → AllByRecursion (λ g. (k : ℕ) → k < g.cells → cell_at frames 0 (g.slot + k) cell.Unknown ≡ cell_of_value (store.cell_at s 0 (g.slot + k))) gs
-    → AllByRecursion (λ g. (k : ℕ) → k < g.cells → cell_at frames' 0 (g.slot + k) cell.Unknown ≡ cell_of_value (store.cell_at s 0 (g.slot + k))) gs
+    → AllByRecursion (λ g. (k : ℕ) → k < g.cells
+    → cell_at frames 0 (g.slot + k) cell.Unknown ≡ cell_of_value (store.cell_at s 0 (g.slot + k))) gs
+    → AllByRecursion (λ g. (k : ℕ) → k < g.cells
+    → cell_at frames' 0 (g.slot + k) cell.Unknown ≡ cell_of_value (store.cell_at s 0 (g.slot + k))) gs
 values_over [] s frames frames' same holds = tt
 values_over (g ∷ gs) s frames frames' same holds =
     (λ k lt. same.0 k lt ∙ holds.0 k lt, values_over gs s frames frames' same.1 holds.1)
 
 -- it ends with the same values
-pub values_the_same : (code new : PlainCode) (p : Program) → DoesTheSame code new → KeepsNames code p → KeepsValues code p → KeepsValues new p
+pub values_the_same : (code new : PlainCode) (p : Program) → DoesTheSame code new → KeepsNames code p → KeepsValues code p
+    → KeepsValues new p
 values_the_same code new p same names values input small n ended =
     let before = sym (same.mode input n) ∙ ended in
     let v = values input small n before in
-    let held = subst (λ (gs : List PlainGlobal). HoldTheSame gs (state_after code input n).now (state_after new input n).now) names.variables
+    let held = subst (λ (gs : List PlainGlobal). HoldTheSame gs (state_after code input n).now (state_after new input n).now)
+    names.variables
     (same.variables input n before) in
     (v.0, v.1, values_over p.globals v.0 (state_after code input n).now (state_after new input n).now held v.2)
 

@@ -55,7 +55,8 @@ routines_shown code p r keeps = name_at code.routines p.routines keeps.routines 
 -- ---- values at a success
 
 -- an item of a list whose items are mapped
-get_mapped : (cells : List store.Cell) (i : ℕ) → get_or (map cell_of_value cells) i cell.Unknown ≡ cell_of_value (get_or cells i store.Unknown)
+get_mapped : (cells : List store.Cell) (i : ℕ)
+    → get_or (map cell_of_value cells) i cell.Unknown ≡ cell_of_value (get_or cells i store.Unknown)
 get_mapped [] i = refl
 get_mapped (c ∷ cells) zero = refl
 get_mapped (c ∷ cells) (suc i) = get_mapped cells i
@@ -79,7 +80,8 @@ one_text frames frames' slot (suc (suc n)) same =
 
 -- a variable has one value in frames that hold what a store does, and in the store
 value_in_store : (s : Store) (frames : List PlainFrame) (gs : List Global) (name : List ℕ)
-    → AllByRecursion (λ g. (k : ℕ) → k < g.cells → cell_at frames 0 (g.slot + k) cell.Unknown ≡ cell_of_value (store.cell_at s 0 (g.slot + k))) gs
+    → AllByRecursion (λ g. (k : ℕ) → k < g.cells
+    → cell_at frames 0 (g.slot + k) cell.Unknown ≡ cell_of_value (store.cell_at s 0 (g.slot + k))) gs
     → value_of_variable frames gs name ≡ value_of_variable (frames_of_store s) gs name
 value_in_store s frames [] name holds = refl
 value_in_store s frames (g ∷ rest) name holds =
