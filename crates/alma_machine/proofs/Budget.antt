@@ -1,7 +1,7 @@
 -- Runs of the copying code machine, step after step.
 use Rattle.std.proofs.Common.{◌≡◌, ℕ, zero, suc, ◌+◌, ◌-◌, ◌<◌, ◌≤◌, List, [], ◌++◌, refl, sym, ap, ◌∙◌, subst, arith, append_assoc}
 use Rattle.std.proofs.Common.{zero-add}
-use Rattle.std.specs.Prelude.{Option, Result, Ok, Err, OnOk, OnErr, is_err, true, false}
+use Rattle.std.specs.Prelude.{Option, Result, Ok, Err, OnErr, is_err, true}
 use Rattle.std.specs.Io.KnownBytes.{Appends}
 use Rattle.std.proofs.lemmas.List.{append-nil}
 use Rattle.alma_code.specs.declared.step.End.{End}
@@ -12,6 +12,7 @@ use Rattle.alma_code.specs.Machine.{Mode, Going, Failing, Ended, Stuck, State, s
 use Rattle.alma_code.specs.Plain.{PlainCode}
 use Rattle.alma_io.specs.Fronts.{AppendsFront}
 use Rattle.alma_io.proofs.Known.{appends_trans}
+use Rattle.alma_io.proofs.PartLemmas.{front_after}
 use Rattle.alma_machine.specs.declared.machine.RunEnd.{RunEnd}
 use Rattle.alma_machine.specs.declared.machine.RunEnd.TheVariants as run
 use Rattle.alma_machine.specs.Runs.{OnWhole, ShowsLast, end_of, run_end_of, made, last_print}
@@ -160,18 +161,12 @@ out_more a b c xs ys zs h k e = subst (λ z. Appends a c z) (sym e) (appends_tra
 
 -- a front of a print comes after those before it
 pub out_front : (a b c : Option (List ℕ)) (xs ys zs : List ℕ) → Appends a b xs → AppendsFront b c ys → zs ≡ xs ++ ys → AppendsFront a c zs
-out_front a b c xs ys zs h (front, rest, is, k) e =
-    (xs ++ front, rest, e ∙ ap (λ z. xs ++ z) is ∙ sym (append_assoc xs front rest), appends_trans a b c xs front h k)
+out_front a b c xs ys zs h k e = front_after xs ys [] zs a b c (e ∙ ap (λ z. xs ++ z) (sym (append-nil ys))) h k
 
 -- what is true of an error is true where there is one
 pub on_err : {T E : Type 0} (result : Result T E) (P : Type 0) → is_err result ≡ true → OnErr result P → P
 on_err (Ok done) P e h = absurd (cc)
 on_err (Err fault) P e h = h
-
--- what is true of a success is true where there is one
-pub on_ok : {T E : Type 0} (result : Result T E) (P : Type 0) → is_err result ≡ false → OnOk result P → P
-on_ok (Ok done) P e h = h
-on_ok (Err fault) P e h = absurd (cc)
 
 -- the steps of a machine that only stopped are those that were made
 pub progress_stopped : (old new stopped : MachineView) (m : ℕ) → stopped.state ≡ new.state → stopped.code ≡ new.code

@@ -1,38 +1,31 @@
 -- A step that is made at once, and one that is left.
 use Rattle.std.proofs.Common.{◌≡◌, ℕ, zero, suc, ◌+◌, ◌≤◌, List, [], ◌∷◌, ◌++◌, refl, sym, ap, ◌∙◌, subst, arith}
-use Rattle.std.specs.Prelude.{Bool, true, false, if◌then◌else◌}
+use Rattle.std.specs.Prelude.{Bool, true, false}
 use Rattle.std.proofs.lemmas.List.{append-nil}
 use Rattle.alma_code.specs.Fits.{Fits}
 use Rattle.alma_code.specs.Machine.{State, StepResult, step, after, prints}
 use Rattle.alma_code.specs.Plain.{PlainCode}
 use Rattle.alma_code_laws.proofs.Runs.{stays_fit}
-use Rattle.alma_machine.specs.Quick.{Quickly, Quietly}
+use Rattle.alma_machine.specs.Quick.{Quickly, Quietly, StepsOnce, StepsQuickly}
 use Rattle.alma_machine.specs.Stands.{Stands}
 use Rattle.alma_machine.specs.Runs.{last_print}
-use Rattle.alma_machine_acts.specs.Steps.{IsLive}
 use Rattle.alma_machine.specs.View.{MachineView}
 use Rattle.alma_machine.proofs.Budget.{after_more, after_sum, prints_more, prints_sum, last_sum, Progress}
 
 -- a step that was made
-pub is_made : (b : Bool) (old new : State) (word : StepResult) → b ≡ true → Quickly b old new word → (new ≡ word.state)
-    × (word.printed ≡ [])
+pub is_made : (b : Bool) (old new : State) (word : StepResult) → b ≡ true → StepsQuickly b old new word → StepsOnce old new word
 is_made true old new word e h = h
 is_made false old new word e h = absurd (cc)
 
 -- what has nothing to tell printed nothing
 pub quick_of_quiet : (b : Bool) (old new : State) (word : StepResult) → Quietly b old new word → Quickly b old new word
-quick_of_quiet true old new word h = (ap (λ x. x.state) h, sym (ap (λ x. x.printed) h))
+quick_of_quiet true old new word h = record { state = ap (λ x. x.state) h.step; silent = sym (ap (λ x. x.printed) h.step); kept = h.kept }
 quick_of_quiet false old new word h = h
 
 -- one that was not
-pub is_left : (b : Bool) (old new : State) (word : StepResult) → b ≡ false → Quickly b old new word → new ≡ old
+pub is_left : (b : Bool) (old new : State) (word : StepResult) → b ≡ false → StepsQuickly b old new word → new ≡ old
 is_left false old new word e h = h
 is_left true old new word e h = absurd (cc)
-
--- a step that was made is counted
-pub is_counted : (b : Bool) (new old : ℕ) → b ≡ true → new ≡ old + (if b then 1 else 0) → new ≡ old + 1
-is_counted true new old e h = h
-is_counted false new old e h = absurd (cc)
 
 -- so many steps were made, with nothing to print, and the machine goes on
 pub record Dashed (code : PlainCode) (input : List ℕ) (m : ℕ) (old new : State) : Type 0 where
@@ -47,21 +40,19 @@ dashed_none code input s stands = record { state = refl; silent = refl; steps = 
 
 -- one more of them
 pub dashed_more : (code : PlainCode) (input : List ℕ) (m : ℕ) (old now new : State) → Dashed code input m old now
-    → (new ≡ (step code input now).state) × ((step code input now).printed ≡ [])
-    → IsLive new.mode → new.steps ≡ now.steps + 1 → new.choices ≤ now.choices + 1 → new.fails ≤ now.fails + 1
-    → Dashed code input (m + 1) old new
-dashed_more code input m old now new h done live steps choices fails = record {
-  state = done.0 ∙ ap (λ s. (step code input s).state) h.state ∙ sym (after_more code input m old);
+    → StepsOnce now new (step code input now) → Dashed code input (m + 1) old new
+dashed_more code input m old now new h done = record {
+  state = done.state ∙ ap (λ s. (step code input s).state) h.state ∙ sym (after_more code input m old);
   silent =
       prints_more code input m old ∙ ap (λ bytes. bytes ++ (step code input (after code input m old)).printed) h.silent
-      ∙ sym (ap (λ s. (step code input s).printed) h.state) ∙ done.1;
-  steps = omega (arith, steps, h.steps);
+      ∙ sym (ap (λ s. (step code input s).printed) h.state) ∙ done.silent;
+  steps = omega (arith, done.counted, h.steps);
   stands = record {
     sound = h.stands.sound;
-    fits = subst (λ s. Fits code s) (sym done.0) (stays_fit code input h.stands.sound now h.stands.fits);
-    live = live;
-    choices = omega (arith, steps, choices, h.stands.choices);
-    fails = omega (arith, steps, fails, h.stands.fails);
+    fits = subst (λ s. Fits code s) (sym done.state) (stays_fit code input h.stands.sound now h.stands.fits);
+    live = done.live;
+    choices = omega (arith, done.counted, done.choices, h.stands.choices);
+    fails = omega (arith, done.counted, done.fails, h.stands.fails);
   };
 }
 

@@ -16,42 +16,42 @@ use Rattle.alma_object.proofs.Records.{form_of, form_is}
 use Rattle.alma_object_format.specs.Instrs.{instrs_with}
 
 -- a form with a value
-pub const_is : (r : InstrRecord) (a : ℕ) (v : ℤ) → instr_of_record r ≡ I.Const (word_of_record r 1) (value_of_record r)
+pub const_is : (r : InstrRecord) {a : ℕ} {v : ℤ} → instr_of_record r ≡ I.Const (word_of_record r 1) (value_of_record r)
     → a ≡ word_of_record r 1 → v ≡ value_of_record r → instr_of_record r ≡ I.Const a v
-const_is r a v is p q = is ∙ ap (λ x. I.Const x (value_of_record r)) (sym p) ∙ ap (I.Const a) (sym q)
+const_is r {a} is p q = is ∙ ap (λ x. I.Const x (value_of_record r)) (sym p) ∙ ap (I.Const a) (sym q)
 
 -- forms of one word, of two, three and four
-pub by_one : (form : ℕ → Instr) (r : InstrRecord) (a : ℕ) → instr_of_record r ≡ form (word_of_record r 1) → a ≡ word_of_record r 1
+pub by_one : (form : ℕ → Instr) (r : InstrRecord) {a : ℕ} → instr_of_record r ≡ form (word_of_record r 1) → a ≡ word_of_record r 1
     → instr_of_record r ≡ form a
-by_one form r a is p = is ∙ ap form (sym p)
+by_one form r is p = is ∙ ap form (sym p)
 
-pub by_two : (form : ℕ → ℕ → Instr) (r : InstrRecord) (a b : ℕ) → instr_of_record r ≡ form (word_of_record r 1) (word_of_record r 5)
+pub by_two : (form : ℕ → ℕ → Instr) (r : InstrRecord) {a b : ℕ} → instr_of_record r ≡ form (word_of_record r 1) (word_of_record r 5)
     → a ≡ word_of_record r 1 → b ≡ word_of_record r 5 → instr_of_record r ≡ form a b
-by_two form r a b is p q = by_one (λ x. form x (word_of_record r 5)) r a is p ∙ ap (form a) (sym q)
+by_two form r {a} is p q = by_one (λ x. form x (word_of_record r 5)) r is p ∙ ap (form a) (sym q)
 
-pub by_three : (form : ℕ → ℕ → ℕ → Instr) (r : InstrRecord) (a b c : ℕ)
+pub by_three : (form : ℕ → ℕ → ℕ → Instr) (r : InstrRecord) {a b c : ℕ}
     → instr_of_record r ≡ form (word_of_record r 1) (word_of_record r 5) (word_of_record r 9)
     → a ≡ word_of_record r 1 → b ≡ word_of_record r 5 → c ≡ word_of_record r 9 → instr_of_record r ≡ form a b c
-by_three form r a b c is p q t = by_two (λ x y. form x y (word_of_record r 9)) r a b is p q ∙ ap (form a b) (sym t)
+by_three form r {a} {b} is p q t = by_two (λ x y. form x y (word_of_record r 9)) r is p q ∙ ap (form a b) (sym t)
 
-pub by_four : (form : ℕ → ℕ → ℕ → ℕ → Instr) (r : InstrRecord) (a b c d : ℕ)
+pub by_four : (form : ℕ → ℕ → ℕ → ℕ → Instr) (r : InstrRecord) {a b c d : ℕ}
     → instr_of_record r ≡ form (word_of_record r 1) (word_of_record r 5) (word_of_record r 9) (word_of_record r 13)
     → a ≡ word_of_record r 1 → b ≡ word_of_record r 5 → c ≡ word_of_record r 9 → d ≡ word_of_record r 13 → instr_of_record r ≡ form a b c d
-by_four form r a b c d is p q t u = by_three (λ x y z. form x y z (word_of_record r 13)) r a b c is p q t ∙ ap (form a b c) (sym u)
+by_four form r {a} {b} {c} is p q t u = by_three (λ x y z. form x y z (word_of_record r 13)) r is p q t ∙ ap (form a b c) (sym u)
 
 -- what the record needs, its instruction needs
-pub needs_of : (code : PlainCode) (now : List PlainFrame) (r : InstrRecord) (i : Instr) → instr_of_record r ≡ i
+pub needs_of : (code : PlainCode) (now : List PlainFrame) (r : InstrRecord) {i : Instr} → instr_of_record r ≡ i
     → Needs code now (instr_of_record r) → Needs code now i
-needs_of code now r i is h = subst (Needs code now) is h
+needs_of code now r is h = subst (Needs code now) is h
 
 -- what its instruction does, the record does
-pub done_of : (b : Bool) (old new : State) (code : PlainCode) (input : List ℕ) (r : InstrRecord) (i : Instr) → instr_of_record r ≡ i
+pub done_of : (b : Bool) (old new : State) (code : PlainCode) (input : List ℕ) (r : InstrRecord) {i : Instr} → instr_of_record r ≡ i
     → Quickly b old new (act code input i old) → Quickly b old new (act code input (instr_of_record r) old)
-done_of b old new code input r i is h = subst (λ j. Quickly b old new (act code input j old)) (sym is) h
+done_of b old new code input r is h = subst (λ j. Quickly b old new (act code input j old)) (sym is) h
 
-pub quietly_of : (b : Bool) (old new : State) (code : PlainCode) (input : List ℕ) (r : InstrRecord) (i : Instr) → instr_of_record r ≡ i
+pub quietly_of : (b : Bool) (old new : State) (code : PlainCode) (input : List ℕ) (r : InstrRecord) {i : Instr} → instr_of_record r ≡ i
     → Quietly b old new (act code input i old) → Quickly b old new (act code input (instr_of_record r) old)
-quietly_of b old new code input r i is h = done_of b old new code input r i is (quick_of_quiet b old new (act code input i old) h)
+quietly_of b old new code input r {i} is h = done_of b old new code input r is (quick_of_quiet b old new (act code input i old) h)
 
 -- ---- the slot that a Call names for its number
 

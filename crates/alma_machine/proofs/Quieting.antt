@@ -6,7 +6,7 @@ use Rattle.alma_code.specs.declared.step.Step.{Step}
 use Rattle.alma_code.specs.Machine.{State, StepResult, content, store, equation, equation_of_contents, quiet_step}
 use Rattle.alma_machine.specs.Quick.{Quietly}
 use Rattle.alma_machine_acts.specs.Acts.{Acts}
-use Rattle.alma_machine_acts.specs.Rows.{HasNumberIn, GivesContent}
+use Rattle.alma_machine_acts.specs.Rows.{HasNumberIn, KeepsOn, GivesContent}
 use Rattle.alma_machine_acts.proofs.Words.{store_is}
 
 -- a store that was made is a step with nothing to tell, and one that wanted memory is none
@@ -14,13 +14,16 @@ pub quietly_stored : {E : Type 0} (r : Result Step E) (b : Bool) (old new : Stat
     → HasNumberIn old.now f n → Acts old new r (store old f n v quiet_step) → store old f n v quiet_step ≡ word → Quietly b old new word
 quietly_stored (Ok a) b old new f n v word made h done is =
     let put = store_is old f n v quiet_step h in
-    subst (λ b. Quietly b old new word) (sym made) (ap (λ (w : StepResult). quiet_step w.state) (done.step ∙ put) ∙ sym put ∙ is)
+    subst (λ b. Quietly b old new word) (sym made) (record {
+      step = ap (λ (w : StepResult). quiet_step w.state) (done.step ∙ put) ∙ sym put ∙ is;
+      kept = subst (λ a. KeepsOn a old new) (ap (λ (w : StepResult). w.answer) (done.step ∙ put)) done.kept;
+    })
 quietly_stored (Err e) b old new f n v word made h none is = subst (λ b. Quietly b old new word) (sym made) none
 
 -- two cells are equated by what they know
-pub known_equation : (s : State) (f i g j : ℕ) (r t : Option Range) (u v x y : Option ℤ) (k : State → StepResult) → GivesContent s.now f i u
+pub known_equation : (s : State) (f i g j : ℕ) (r t : Option Range) {u v x y : Option ℤ} (k : State → StepResult) → GivesContent s.now f i u
     → GivesContent s.now g j v → u ≡ x → v ≡ y → equation s f i r g j t k ≡ equation_of_contents s f i r x g j t y k
-known_equation s f i g j r t u v x y k a b left right =
+known_equation s f i g j r t {u} {v} {x} k a b left right =
     a s (λ u. content s g j (λ v. equation_of_contents s f i r u g j t v k)) refl
     ∙ b s (λ v. equation_of_contents s f i r u g j t v k) refl
     ∙ ap (λ u. equation_of_contents s f i r u g j t v k) left

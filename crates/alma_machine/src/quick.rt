@@ -1,11 +1,10 @@
 // Steps that are made at once, one after another: those of instructions that come often, with nothing to tell. The first
 // step that is another is left to the whole machine.
-ghost use Rattle.std.specs.Prelude.{◌≡◌, ◌+◌, ◌^◌, ◌<◌, ◌≤◌, [], if◌then◌else◌};
+ghost use Rattle.std.specs.Prelude.{◌≡◌, ◌+◌, ◌^◌, ◌<◌, ◌≤◌, []};
 ghost use Rattle.alma_code.specs.Machine.{Going, step, after, prints};
-ghost use Rattle.alma_machine.specs.Quick.{Quickly};
+ghost use Rattle.alma_machine.specs.Quick.{StepsQuickly};
 ghost use Rattle.alma_machine.specs.Stands.{Stands};
 ghost use Rattle.alma_machine.specs.View.{run_state};
-ghost use Rattle.alma_machine_acts.specs.Steps.{IsLive};
 
 use crate::quick_cells::pop_quickly;
 use crate::quick_record::act_quickly;
@@ -19,12 +18,8 @@ fn take_quickly<V: CodeView>(registers: &mut Registers<Memory>, view: &V, input:
     requires keeps { Stands (V.code view.now) (run_state registers.old) }
     requires going { (run_state registers.old).mode ≡ Going }
     requires few { registers.old.steps + 1 < 2 ^ 63 }
-    ensures step { Quickly result (run_state registers.old) (run_state registers.new)
+    ensures { StepsQuickly result (run_state registers.old) (run_state registers.new)
         (step (V.code view.now) input.now (run_state registers.old)) }
-    ensures counted { registers.new.steps ≡ registers.old.steps + (if result then 1 else 0) }
-    ensures live { IsLive (run_state registers.new).mode }
-    ensures choices { registers.new.choices ≤ registers.old.choices + 1 }
-    ensures fails { registers.new.fails ≤ registers.old.fails + 1 }
 {
     let _count = view.code_count();
     let (at, last) = (registers.at, registers.last);
@@ -47,12 +42,8 @@ fn take_quickly<V: CodeView>(registers: &mut Registers<Memory>, view: &V, input:
 fn step_quickly<V: CodeView>(registers: &mut Registers<Memory>, view: &V, input: &[u8]) -> bool
     requires keeps { Stands (V.code view.now) (run_state registers.old) }
     requires few { registers.old.steps + 1 < 2 ^ 63 }
-    ensures step { Quickly result (run_state registers.old) (run_state registers.new)
+    ensures { StepsQuickly result (run_state registers.old) (run_state registers.new)
         (step (V.code view.now) input.now (run_state registers.old)) }
-    ensures counted { registers.new.steps ≡ registers.old.steps + (if result then 1 else 0) }
-    ensures live { IsLive (run_state registers.new).mode }
-    ensures choices { registers.new.choices ≤ registers.old.choices + 1 }
-    ensures fails { registers.new.fails ≤ registers.old.fails + 1 }
 {
     match registers.mode {
         Mode::Going => take_quickly(registers, view, input),

@@ -6,7 +6,7 @@ ghost use Rattle.alma_base.specs.Numbers.{is_zero};
 ghost use Rattle.alma_base.specs.declared.fault.RunFault.TheVariants as fault;
 ghost use Rattle.alma_code.specs.Machine.{State, number, put_number, goes_to, fails_now, range_check, quiet_step, act};
 ghost use Rattle.alma_machine.specs.Needs.{Needs, Computes};
-ghost use Rattle.alma_machine.specs.Quick.{Quietly, KeepsLive};
+ghost use Rattle.alma_machine.specs.Quick.{Quietly};
 ghost use Rattle.alma_machine.specs.View.{run_state};
 ghost use Rattle.alma_machine_acts.specs.Rows.{HasNumber, HasPlace, count_on, put_or_fault, point_or_fault};
 
@@ -21,9 +21,8 @@ use alma_memory::Memory;
 #[tactic(auto, using(alma_machine_acts::proofs::Words::puts))]
 fn lay_number(registers: &mut Registers<Memory>, to: u32, number: Result<i64, RunFault>) -> bool
     requires { HasNumber registers.old.memory.now to }
-    ensures step { Quietly result (run_state registers.old) (run_state registers.new)
+    ensures { Quietly result (run_state registers.old) (run_state registers.new)
         (put_or_fault (run_state registers.old) to number) }
-    ensures kept { KeepsLive (run_state registers.old) (run_state registers.new) }
 {
     match number {
         Ok(number) => registers.write(to, Cell::Int(number)).is_ok(),
@@ -35,9 +34,8 @@ fn lay_number(registers: &mut Registers<Memory>, to: u32, number: Result<i64, Ru
 #[inline(always)]
 fn lay_place(registers: &mut Registers<Memory>, to: u32, spot: Result<Spot, RunFault>) -> bool
     requires { HasPlace registers.old.memory.now to }
-    ensures step { Quietly result (run_state registers.old) (run_state registers.new)
+    ensures { Quietly result (run_state registers.old) (run_state registers.new)
         (point_or_fault (run_state registers.old) to spot) }
-    ensures kept { KeepsLive (run_state registers.old) (run_state registers.new) }
 {
     match spot {
         Ok(spot) => registers.put_place(to, spot.frame, spot.slot).is_ok(),
@@ -57,10 +55,8 @@ fn count_quickly(
     requires counter { HasNumber registers.old.memory.now counter }
     requires limit { HasNumber registers.old.memory.now limit }
     requires by { HasNumber registers.old.memory.now by }
-    ensures step { let s = run_state registers.old in
-        Quietly result s (run_state registers.new)
+    ensures { let s = run_state registers.old in Quietly result s (run_state registers.new)
         (count_on s counter limit by (goes_to out s) (put_number s counter)) }
-    ensures kept { KeepsLive (run_state registers.old) (run_state registers.new) }
 {
     match registers.next(counter, limit, by) {
         Ok(Some(next)) => lay_number(registers, counter, Ok(next)),
@@ -77,10 +73,8 @@ fn count_quickly(
 #[tactic(auto, using(alma_machine_acts::proofs::Words::tests, std::proofs::lemmas::Int::ints, std::proofs::lemmas::Grind::common_steps))]
 fn jump_quickly(registers: &mut Registers<Memory>, value: u32, to: u32) -> bool
     requires { HasNumber registers.old.memory.now value }
-    ensures step { let s = run_state registers.old in
-        Quietly result s (run_state registers.new) (number s value (λ v. if_true (is_zero v)
-        (λ _. goes_to to s) (λ _. quiet_step s))) }
-    ensures kept { KeepsLive (run_state registers.old) (run_state registers.new) }
+    ensures { let s = run_state registers.old in Quietly result s (run_state registers.new)
+        (number s value (λ v. if_true (is_zero v) (λ _. goes_to to s) (λ _. quiet_step s))) }
 {
     match registers.number(value) {
         Ok(number) => {
@@ -98,10 +92,8 @@ fn jump_quickly(registers: &mut Registers<Memory>, value: u32, to: u32) -> bool
 #[tactic(auto, using(alma_machine_acts::proofs::Words::tests, std::proofs::lemmas::Int::ints, std::proofs::lemmas::Grind::common_steps))]
 fn check_quickly(registers: &mut Registers<Memory>, value: u32) -> bool
     requires { HasNumber registers.old.memory.now value }
-    ensures step { let s = run_state registers.old in
-        Quietly result s (run_state registers.new) (number s value (λ v. if_true (is_zero v)
-        (λ _. fails_now s) (λ _. quiet_step s))) }
-    ensures kept { KeepsLive (run_state registers.old) (run_state registers.new) }
+    ensures { let s = run_state registers.old in Quietly result s (run_state registers.new)
+        (number s value (λ v. if_true (is_zero v) (λ _. fails_now s) (λ _. quiet_step s))) }
 {
     match registers.number(value) {
         Ok(number) => {
@@ -139,9 +131,8 @@ pub(crate) fn number_quickly<V: CodeView>(
     input: &[u8],
 ) -> bool
     requires { Computes registers.old.memory.now instr }
-    ensures step { Quietly result (run_state registers.old) (run_state registers.new)
+    ensures { Quietly result (run_state registers.old) (run_state registers.new)
         (act (V.code view.now) input.now instr (run_state registers.old)) }
-    ensures kept { KeepsLive (run_state registers.old) (run_state registers.new) }
 {
     let (to, number) = computed(registers, instr);
     lay_number(registers, to, number)
@@ -157,9 +148,8 @@ pub(crate) fn control_quickly<V: CodeView>(
     input: &[u8],
 ) -> bool
     requires { Needs (V.code view.now) registers.old.memory.now instr }
-    ensures step { Quietly result (run_state registers.old) (run_state registers.new)
+    ensures { Quietly result (run_state registers.old) (run_state registers.new)
         (act (V.code view.now) input.now instr (run_state registers.old)) }
-    ensures kept { KeepsLive (run_state registers.old) (run_state registers.new) }
 {
     match instr {
         Instr::Jump { to } => {
@@ -196,9 +186,8 @@ pub(crate) fn place_quickly<V: CodeView>(
     input: &[u8],
 ) -> bool
     requires { Needs (V.code view.now) registers.old.memory.now instr }
-    ensures step { Quietly result (run_state registers.old) (run_state registers.new)
+    ensures { Quietly result (run_state registers.old) (run_state registers.new)
         (act (V.code view.now) input.now instr (run_state registers.old)) }
-    ensures kept { KeepsLive (run_state registers.old) (run_state registers.new) }
 {
     match instr {
         Instr::Local { to, first } => {

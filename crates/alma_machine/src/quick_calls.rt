@@ -8,7 +8,7 @@ ghost use Rattle.alma_code.specs.Layout.{IsHead, FitsParams};
 ghost use Rattle.alma_code.specs.Machine.{number, arguments, enters_routine, ends_run, answers_return, state_after_leave, result_to, act};
 ghost use Rattle.alma_code.specs.Picture.{last_frame};
 ghost use Rattle.alma_machine.specs.Needs.{Needs};
-ghost use Rattle.alma_machine.specs.Quick.{Quickly, KeepsLive};
+ghost use Rattle.alma_machine.specs.Quick.{Quickly};
 ghost use Rattle.alma_machine.specs.View.{run_state};
 ghost use Rattle.alma_machine_acts.specs.Calls.{HasArguments, CallsBack};
 ghost use Rattle.alma_machine_acts.specs.Rows.{HasNumber};
@@ -31,10 +31,9 @@ fn enter_quickly<H: Head>(
     requires args { FitsParams (IsLive registers.old.memory.now)
         (λ routine. IsLive registers.old.memory.now) (H.head head.now).params
         registers.old.args.items }
-    ensures step { Quickly result (run_state registers.old) (run_state registers.new)
+    ensures { Quickly result (run_state registers.old) (run_state registers.new)
         (enters_routine (run_state registers.old) routine start (H.head head.now)
         registers.old.args.items) }
-    ensures kept { KeepsLive (run_state registers.old) (run_state registers.new) }
 {
     match registers
         .memory
@@ -59,10 +58,9 @@ fn call_with<H: Head>(
 ) -> bool
     requires head { IsHead (H.head head.now) }
     requires args { HasArguments registers.old.memory.now (H.head head.now).params first }
-    ensures step { let s = run_state registers.old in Quickly result s (run_state registers.new)
+    ensures { let s = run_state registers.old in Quickly result s (run_state registers.new)
         (arguments (H.head head.now).params s first
         (λ args. enters_routine s routine start (H.head head.now) args)) }
-    ensures kept { KeepsLive (run_state registers.old) (run_state registers.new) }
 {
     match arguments(&registers.memory, head, first, &mut registers.args) {
         Ok(None) => enter_quickly(registers, head, routine, start),
@@ -75,10 +73,9 @@ fn call_with<H: Head>(
 #[tactic(auto, using(alma_machine_acts::proofs::Given::returns))]
 fn leave_quickly(registers: &mut Registers<Memory>) -> bool
     requires { 1 ≤ length registers.old.memory.now }
-    ensures step { let s = run_state registers.old in Quickly result s (run_state registers.new)
+    ensures { let s = run_state registers.old in Quickly result s (run_state registers.new)
         (if_true (nat_eq (length s.now) 1) (λ _. ends_run end.Succeeded s)
         (λ _. answers_return (state_after_leave s))) }
-    ensures kept { KeepsLive (run_state registers.old) (run_state registers.new) }
 {
     if registers.memory.frames() == 1 {
         return false;
@@ -107,10 +104,9 @@ fn called_to<V: CodeView>(view: &V, at: u32) -> u32
 #[tactic(auto, using(alma_machine_acts::proofs::Back::backs))]
 fn give_back_quickly<V: CodeView>(registers: &mut Registers<Memory>, view: &V, number: i64) -> bool
     requires { CallsBack (V.code view.now) registers.old.memory.now }
-    ensures step { let s = run_state registers.old in Quickly result s (run_state registers.new)
+    ensures { let s = run_state registers.old in Quickly result s (run_state registers.new)
         (result_to (slice_get (V.code view.now).instrs ((last_frame s.now).back - 1))
         (state_after_leave s) number) }
-    ensures kept { KeepsLive (run_state registers.old) (run_state registers.new) }
 {
     if registers.memory.trail_room() < 2 {
         return false;
@@ -132,10 +128,9 @@ fn give_back_quickly<V: CodeView>(registers: &mut Registers<Memory>, view: &V, n
 fn leave_with_quickly<V: CodeView>(registers: &mut Registers<Memory>, view: &V, value: u32) -> bool
     requires slot { HasNumber registers.old.memory.now value }
     requires back { CallsBack (V.code view.now) registers.old.memory.now }
-    ensures step { let s = run_state registers.old in Quickly result s (run_state registers.new)
+    ensures { let s = run_state registers.old in Quickly result s (run_state registers.new)
         (number s value (λ v. result_to (slice_get (V.code view.now).instrs
         ((last_frame s.now).back - 1)) (state_after_leave s) v)) }
-    ensures kept { KeepsLive (run_state registers.old) (run_state registers.new) }
 {
     match registers.number(value) {
         Ok(number) => give_back_quickly(registers, view, number),
@@ -153,9 +148,8 @@ pub(crate) fn call_quickly<V: CodeView>(
     input: &[u8],
 ) -> bool
     requires { Needs (V.code view.now) registers.old.memory.now instr }
-    ensures step { Quickly result (run_state registers.old) (run_state registers.new)
+    ensures { Quickly result (run_state registers.old) (run_state registers.new)
         (act (V.code view.now) input.now instr (run_state registers.old)) }
-    ensures kept { KeepsLive (run_state registers.old) (run_state registers.new) }
 {
     match instr {
         Instr::Call { routine, first, .. } => match view.routine(routine) {

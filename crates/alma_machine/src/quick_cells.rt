@@ -3,7 +3,7 @@ ghost use Rattle.std.specs.Prelude.{◌+◌, ◌<◌, ◌^◌, Some, length};
 ghost use Rattle.alma_code.specs.Machine.{number, place, content, store, binds_content, optional_range_check, equation, mark, cut_to, answer_of_push, state_after_push, pop, put_mark, quiet_step, act};
 ghost use Rattle.alma_code.specs.declared.cell.ChoiceKind.TheVariants as choice;
 ghost use Rattle.alma_machine.specs.Needs.{Needs};
-ghost use Rattle.alma_machine.specs.Quick.{Quickly, Quietly, KeepsLive};
+ghost use Rattle.alma_machine.specs.Quick.{Quickly, Quietly};
 ghost use Rattle.alma_machine.specs.View.{run_state};
 ghost use Rattle.alma_machine_acts.specs.Rows.{HasMark, HasNumber, HasNumberIn, HasOneCell};
 
@@ -19,10 +19,8 @@ use alma_memory::Memory;
 fn store_quickly(registers: &mut Registers<Memory>, to: u32, from: u32) -> bool
     requires to { HasOneCell registers.old.memory.now to }
     requires from { HasNumber registers.old.memory.now from }
-    ensures step { let s = run_state registers.old in
-        Quietly result s (run_state registers.new) (place s to
-        (λ p. number s from (λ v. store s p.frame p.slot v quiet_step))) }
-    ensures kept { KeepsLive (run_state registers.old) (run_state registers.new) }
+    ensures { let s = run_state registers.old in Quietly result s (run_state registers.new)
+        (place s to (λ p. number s from (λ v. store s p.frame p.slot v quiet_step))) }
 {
     let Ok(place) = registers.place(to) else {
         return false;
@@ -43,10 +41,9 @@ fn give_quickly(
     number: i64,
 ) -> bool
     requires { HasNumberIn registers.old.memory.now place.frame place.slot }
-    ensures step { let s = run_state registers.old in
-        Quietly result s (run_state registers.new) (optional_range_check (Some range.now) s number
+    ensures { let s = run_state registers.old in Quietly result s (run_state registers.new)
+        (optional_range_check (Some range.now) s number
         (λ _. store s place.frame place.slot number quiet_step)) }
-    ensures kept { KeepsLive (run_state registers.old) (run_state registers.new) }
 {
     if number < range.low || range.high < number {
         return false;
@@ -64,10 +61,8 @@ fn bind_to_quickly(
     number: i64,
 ) -> bool
     requires { HasNumberIn registers.old.memory.now place.frame place.slot }
-    ensures step { let s = run_state registers.old in
-        Quietly result s (run_state registers.new)
+    ensures { let s = run_state registers.old in Quietly result s (run_state registers.new)
         (content s place.frame place.slot (λ u. binds_content s place range.now number u)) }
-    ensures kept { KeepsLive (run_state registers.old) (run_state registers.new) }
 {
     match registers.content(place.frame, place.slot) {
         Some(known) => {
@@ -86,10 +81,9 @@ fn bind_to_quickly(
 fn bind_quickly(registers: &mut Registers<Memory>, to: u32, value: u32, range: &Range) -> bool
     requires to { HasOneCell registers.old.memory.now to }
     requires value { HasNumber registers.old.memory.now value }
-    ensures step { let s = run_state registers.old in
-        Quietly result s (run_state registers.new) (place s to (λ p. number s value
+    ensures { let s = run_state registers.old in Quietly result s (run_state registers.new)
+        (place s to (λ p. number s value
         (λ v. content s p.frame p.slot (λ u. binds_content s p range.now v u)))) }
-    ensures kept { KeepsLive (run_state registers.old) (run_state registers.new) }
 {
     let Ok(place) = registers.place(to) else {
         return false;
@@ -112,11 +106,9 @@ fn equate_quickly(
 ) -> bool
     requires left { HasNumberIn registers.old.memory.now left.frame left.slot }
     requires right { HasNumberIn registers.old.memory.now right.frame right.slot }
-    ensures step { let s = run_state registers.old in
-        Quietly result s (run_state registers.new)
+    ensures { let s = run_state registers.old in Quietly result s (run_state registers.new)
         (equation s left.frame left.slot (Some first) right.frame right.slot (Some second)
         quiet_step) }
-    ensures kept { KeepsLive (run_state registers.old) (run_state registers.new) }
 {
     let left_known = registers.content(left.frame, left.slot);
     let right_known = registers.content(right.frame, right.slot);
@@ -145,11 +137,9 @@ fn unify_quickly(
 ) -> bool
     requires left { HasOneCell registers.old.memory.now left }
     requires right { HasOneCell registers.old.memory.now right }
-    ensures step { let s = run_state registers.old in
-        Quietly result s (run_state registers.new) (place s left (λ p. place s right
-        (λ q. equation s p.frame p.slot (Some first) q.frame q.slot (Some second)
-        quiet_step))) }
-    ensures kept { KeepsLive (run_state registers.old) (run_state registers.new) }
+    ensures { let s = run_state registers.old in Quietly result s (run_state registers.new)
+        (place s left (λ p. place s right
+        (λ q. equation s p.frame p.slot (Some first) q.frame q.slot (Some second) quiet_step))) }
 {
     let Ok(one) = registers.place(left) else {
         return false;
@@ -170,9 +160,8 @@ pub(crate) fn cell_quickly<V: CodeView>(
     input: &[u8],
 ) -> bool
     requires { Needs (V.code view.now) registers.old.memory.now instr }
-    ensures step { Quietly result (run_state registers.old) (run_state registers.new)
+    ensures { Quietly result (run_state registers.old) (run_state registers.new)
         (act (V.code view.now) input.now instr (run_state registers.old)) }
-    ensures kept { KeepsLive (run_state registers.old) (run_state registers.new) }
 {
     match instr {
         Instr::Store { to, from } => store_quickly(registers, to, from),
@@ -202,9 +191,8 @@ pub(crate) fn cell_quickly<V: CodeView>(
 #[tactic(auto, using(alma_machine_acts::proofs::Entries::cuts))]
 fn cut_quickly(registers: &mut Registers<Memory>, slot: u32) -> bool
     requires { HasMark registers.old.memory.now slot }
-    ensures step { let s = run_state registers.old in
-        Quickly result s (run_state registers.new) (mark s slot (λ h. cut_to s h)) }
-    ensures kept { KeepsLive (run_state registers.old) (run_state registers.new) }
+    ensures { let s = run_state registers.old in Quickly result s (run_state registers.new)
+        (mark s slot (λ h. cut_to s h)) }
 {
     match mark(registers, slot) {
         Ok(height) => {
@@ -221,9 +209,8 @@ fn cut_quickly(registers: &mut Registers<Memory>, slot: u32) -> bool
 #[inline(always)]
 fn choose_quickly(registers: &mut Registers<Memory>, resume: u32) -> bool
     requires few { registers.old.choices + 1 < 2 ^ 63 }
-    ensures step { Quickly result (run_state registers.old) (run_state registers.new)
+    ensures { Quickly result (run_state registers.old) (run_state registers.new)
         (answer_of_push (state_after_push (run_state registers.old) choice.Branch resume)) }
-    ensures kept { KeepsLive (run_state registers.old) (run_state registers.new) }
 {
     choose(registers, ChoiceKind::Branch, resume).is_ok()
 }
@@ -232,9 +219,8 @@ fn choose_quickly(registers: &mut Registers<Memory>, resume: u32) -> bool
 #[inline(always)]
 fn mark_quickly(registers: &mut Registers<Memory>, to: u32) -> bool
     requires { HasMark registers.old.memory.now to }
-    ensures step { let s = run_state registers.old in
-        Quickly result s (run_state registers.new) (put_mark s to (length s.held)) }
-    ensures kept { KeepsLive (run_state registers.old) (run_state registers.new) }
+    ensures { let s = run_state registers.old in Quickly result s (run_state registers.new)
+        (put_mark s to (length s.held)) }
 {
     set_mark(registers, to).is_ok()
 }
@@ -250,9 +236,8 @@ pub(crate) fn choice_quickly<V: CodeView>(
 ) -> bool
     requires needs { Needs (V.code view.now) registers.old.memory.now instr }
     requires few { registers.old.choices + 1 < 2 ^ 63 }
-    ensures step { Quickly result (run_state registers.old) (run_state registers.new)
+    ensures { Quickly result (run_state registers.old) (run_state registers.new)
         (act (V.code view.now) input.now instr (run_state registers.old)) }
-    ensures kept { KeepsLive (run_state registers.old) (run_state registers.new) }
 {
     match instr {
         Instr::Mark { to } => mark_quickly(registers, to),
@@ -267,9 +252,8 @@ pub(crate) fn choice_quickly<V: CodeView>(
 #[tactic(auto, using(alma_machine_acts::proofs::Entries::pops))]
 pub(crate) fn pop_quickly(registers: &mut Registers<Memory>) -> bool
     requires few { registers.old.fails + 1 < 2 ^ 63 }
-    ensures step { Quickly result (run_state registers.old) (run_state registers.new)
+    ensures { Quickly result (run_state registers.old) (run_state registers.new)
         (pop (run_state registers.old)) }
-    ensures kept { KeepsLive (run_state registers.old) (run_state registers.new) }
 {
     match registers.memory.fail() {
         Some(resumed) => {

@@ -3,7 +3,7 @@
 ghost use Rattle.std.specs.Prelude.{◌+◌, ◌<◌, ◌^◌};
 ghost use Rattle.alma_code.specs.Machine.{act};
 ghost use Rattle.alma_machine.specs.Needs.{Needs};
-ghost use Rattle.alma_machine.specs.Quick.{Quickly, KeepsLive};
+ghost use Rattle.alma_machine.specs.Quick.{Quickly};
 ghost use Rattle.alma_machine.specs.View.{run_state};
 ghost use Rattle.alma_object.specs.View.{instr_of_record};
 
@@ -26,9 +26,8 @@ pub(crate) fn act_quickly<V: CodeView>(
 ) -> bool
     requires needs { Needs (V.code view.now) registers.old.memory.now (instr_of_record form) }
     requires few { registers.old.choices + 1 < 2 ^ 63 }
-    ensures step { Quickly result (run_state registers.old) (run_state registers.new)
+    ensures { Quickly result (run_state registers.old) (run_state registers.new)
         (act (V.code view.now) input.now (instr_of_record form.entry) (run_state registers.old)) }
-    ensures kept { KeepsLive (run_state registers.old) (run_state registers.new) }
 {
     match form.opcode() {
         1 => {

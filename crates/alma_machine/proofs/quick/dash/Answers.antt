@@ -1,7 +1,6 @@
 use Rattle.std.proofs.Common.{arith}
-use Rattle.alma_code.specs.Machine.{step}
 use Rattle.alma_machine.specs.View.{run_state}
-use Rattle.alma_machine.proofs.Dashing.{dashed_none, dashed_more, dashed_left, is_made, is_left, is_counted}
+use Rattle.alma_machine.proofs.Dashing.{dashed_none, dashed_more, dashed_left, is_made, is_left}
 use Rattle.alma_machine.proofs.quick.dash.Goals as goal
 
 pub loop-made-init : goal.loop-made-init
@@ -17,50 +16,25 @@ pub step_quickly-requires-clause-few : goal.step_quickly-requires-clause-few
 step_quickly-requires-clause-few g c = omega (arith, c.loop-made.invariant.dashed.steps, c.loop-made-test.true, c.requires.few)
 
 pub loop-made-preserved : goal.loop-made-preserved
-loop-made-preserved g c =
-    let code = g.V.CodeView.code c.args.view in
-    let input = c.args.input.now in
-    let old = run_state c.args.registers.now in
-    let now = run_state c.loop-made.registers in
-    let new = run_state c.step_quickly.new.registers in
-    let made = c.if-not-step_quickly.false in
-    record {
-      within = omega (arith, c.loop-made-test.true);
-      dashed = dashed_more code input c.loop-made.made old now new c.loop-made.invariant.dashed
-          (is_made c.step_quickly.result now new (step code input now) made c.step_quickly.ensures.step) c.step_quickly.ensures.live
-          (is_counted c.step_quickly.result new.steps now.steps made c.step_quickly.ensures.counted) c.step_quickly.ensures.choices
-          c.step_quickly.ensures.fails;
-    }
+loop-made-preserved g c = record {
+  within = omega (arith, c.loop-made-test.true);
+  dashed = dashed_more _ _ _ _ _ _ c.loop-made.invariant.dashed (is_made _ _ _ _ c.if-not-step_quickly.false c.step_quickly.ensures);
+}
 
 pub returns-then-not-step_quickly-clause-state : goal.returns-then-not-step_quickly-clause-state
 returns-then-not-step_quickly-clause-state g c =
-    let code = g.V.CodeView.code c.args.view in
-    let now = run_state c.loop-made.registers in
-    let new = run_state c.step_quickly.new.registers in
-    let same = is_left c.step_quickly.result now new (step code c.args.input.now now) c.if-not-step_quickly.true
-    c.step_quickly.ensures.step in
-    (dashed_left code c.args.input.now c.loop-made.made (run_state c.args.registers.now) now new c.loop-made.invariant.dashed same).state
+    (dashed_left _ _ _ _ _ _ c.loop-made.invariant.dashed (is_left _ _ _ _ c.if-not-step_quickly.true c.step_quickly.ensures)).state
 
 pub returns-then-not-step_quickly-clause-silent : goal.returns-then-not-step_quickly-clause-silent
 returns-then-not-step_quickly-clause-silent g c = c.loop-made.invariant.dashed.silent
 
 pub returns-then-not-step_quickly-clause-counted : goal.returns-then-not-step_quickly-clause-counted
 returns-then-not-step_quickly-clause-counted g c =
-    let code = g.V.CodeView.code c.args.view in
-    let now = run_state c.loop-made.registers in
-    let new = run_state c.step_quickly.new.registers in
-    let same = is_left c.step_quickly.result now new (step code c.args.input.now now) c.if-not-step_quickly.true
-    c.step_quickly.ensures.step in
-    (dashed_left code c.args.input.now c.loop-made.made (run_state c.args.registers.now) now new c.loop-made.invariant.dashed same).steps
+    (dashed_left _ _ _ _ _ _ c.loop-made.invariant.dashed (is_left _ _ _ _ c.if-not-step_quickly.true c.step_quickly.ensures)).steps
 
 pub returns-then-not-step_quickly-clause-stands : goal.returns-then-not-step_quickly-clause-stands
 returns-then-not-step_quickly-clause-stands g c =
-    let code = g.V.CodeView.code c.args.view in
-    let now = run_state c.loop-made.registers in
-    let new = run_state c.step_quickly.new.registers in
-    let same = is_left c.step_quickly.result now new (step code c.args.input.now now) c.if-not-step_quickly.true
-    c.step_quickly.ensures.step in
-    (dashed_left code c.args.input.now c.loop-made.made (run_state c.args.registers.now) now new c.loop-made.invariant.dashed same).stands
+    (dashed_left _ _ _ _ _ _ c.loop-made.invariant.dashed (is_left _ _ _ _ c.if-not-step_quickly.true c.step_quickly.ensures)).stands
 
 pub returns-clause-few : goal.returns-clause-few
 returns-clause-few g c = c.loop-made.invariant.within

@@ -14,13 +14,12 @@ equate_quickly-requires c =
       right = one_slot now _ c.in-Ok-place.other c.in-Ok-place.ensures.0 c.requires.right.one;
     }
 
-pub returns-clause-step : goal.returns-clause-step
-returns-clause-step c =
+pub returns : goal.returns
+returns c =
     let s = run_state c.args.registers.now in
     let a = c.args in
     let p = c.in-Ok.one in
-    subst (Quietly c.equate_quickly.result s (run_state c.equate_quickly.new.registers))
-    (sym (c.in-Ok.ensures.1 s
+    subst (Quietly _ _ _) (sym (c.in-Ok.ensures.1 s
     (λ p. place s a.right (λ q. equation s p.frame p.slot (Some a.first) q.frame q.slot (Some a.second) quiet_step)) refl
     ∙ c.in-Ok-place.ensures.1 s (λ q. equation s p.frame p.slot (Some a.first) q.frame q.slot (Some a.second) quiet_step) refl))
-    c.equate_quickly.ensures.step
+    c.equate_quickly.ensures
