@@ -1,5 +1,6 @@
 -- What READ needs.
-use Rattle.std.specs.Prelude.{◌≤◌, List}
+use Rattle.std.specs.Prelude.{◌≤◌, ◌+◌, List}
+use Rattle.alma_base.specs.Limits.{input_limit}
 use Rattle.alma_base.specs.declared.number.ReadInt.{ReadInt}
 use Rattle.alma_base.specs.declared.number.ReadInt.TheVariants.{Number, NoNumber, TooLarge}
 use Rattle.alma_code.specs.declared.cell.Cell.TheVariants as cell
@@ -14,6 +15,6 @@ pub record HasPosition (now : List PlainFrame) : Type 0 where
 
 -- the place behind a number that is found is a place of an input
 abbrev pub IsBelow : ReadInt → Type 0
-IsBelow (Number v behind) = behind ≤ 16777217
+IsBelow (Number v behind) = behind ≤ input_limit + 1
 IsBelow NoNumber = Unit {0}
 IsBelow TooLarge = Unit {0}

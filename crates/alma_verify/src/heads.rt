@@ -9,6 +9,7 @@ ghost use Rattle.alma_code.specs.Rules.{IsTable, is_global, is_main as is_main_s
 use crate::kinds::{is_link_of, is_number, is_place_of};
 use crate::reader::CodeReader;
 use crate::slots::{are_cells, are_numbers, kind_of, start_of};
+use alma_base::{CELL_LIMIT, SLOT_LIMIT};
 use alma_code::{CodeParam, ParamKind, SlotKind};
 
 #[tactic(auto, using(std::proofs::lemmas::List::Folds::list_all_more, std::proofs::lemmas::List::Folds::list_all_at))]
@@ -88,10 +89,10 @@ pub fn rule_2<R: CodeReader>(reader: &R, routine: u32) -> bool
     let slots = reader.slots(routine);
     let declared = reader.declared(routine);
     end_of_runs(reader, routine) == slots
-        && slots <= 8_388_608
+        && slots <= SLOT_LIMIT
         && name_routines(reader, routine)
         && declared <= slots
-        && declared <= 1_048_576
+        && declared <= CELL_LIMIT
 }
 
 #[tactic(auto, using(crate::proofs::Starts::nexts))]

@@ -20,13 +20,9 @@ pub fn open_object<'b>(bytes: &'b [u8]) -> Result<ObjectView<'b>, ObjectFault>
     ensures object { IfOk result (λ view. IsObject (code_of_view view) bytes.now) }
     ensures code { IfOk result (λ view. code_of_view view ≡ object_code bytes.now) }
 {
-    match ObjectView::new(bytes) {
-        Ok(view) => {
-            view.keeps_object();
-            Ok(view)
-        }
-        Err(fault) => Err(fault),
-    }
+    let view = ObjectView::new(bytes)?;
+    view.keeps_object();
+    Ok(view)
 }
 
 /// The verified view of the object of a sound code. Its code is that code.
