@@ -54,7 +54,6 @@ module _ (p : Program) where
   shows_line s (Value name) is = shows_value s name is
   shows_line s Output is = (
     output_of s,
-    shown_end (state_of s).mode (line_in s.code (state_of s)),
     code_shows s.code p s.input s.steps is.code_for.implements is.short,
     refl,
   )

@@ -5,12 +5,12 @@ use Rattle.alma_code.specs.declared.step.End.TheVariants as end
 use Rattle.alma_code.specs.Machine.{Ended}
 use Rattle.alma_io.specs.Files.{Has}
 use Rattle.alma_ir.specs.Tree.{Program}
+use Rattle.alma_lower_implements.specs.Implements.{line_in}
 use Rattle.alma_lower_sound.specs.Reads.{program_reads}
-use Rattle.alma_mean.specs.Events.{End}
 use Rattle.alma_io.specs.Outside.{Outside}
 use Rattle.alma_plan.specs.Plan.{prints}
 use Rattle.alma_plan.specs.Undisturbed.{ShowsDue}
-use Rattle.alma_run_laws.specs.Shown.{Shows}
+use Rattle.alma_run_laws.specs.Shown.{Shows, shown_end}
 use Rattle.alma_run_laws.specs.Stored.{SpellsCodeOf}
 use Rattle.alma_run_laws.specs.Variables.{IsMeantWord, variable_word}
 use Rattle.alma_verify.specs.Bytes.{object_code}
@@ -37,8 +37,8 @@ pub record WalksProgram (words : List (List ℕ)) (before : Outside) (p : Progra
   pub input_short : length input ≤ input_limit
 
 -- What a line shows of a run of the program that stands there: the number of its steps; a variable of the program, by its cells there,
--- and where the run has come to success what its meaning gives the variable; or how many bytes were printed: those that its meaning
--- prints, or a front of them that so many steps show.
+-- and where the run has come to success what its meaning gives the variable; or how many bytes were printed: all that its meaning
+-- prints where the run has ended, and else a front of them that so many steps show.
 abbrev pub ShowsLine : Program → Standing → Line → (text : List ℕ) → Type 0
 ShowsLine p s (Forward more) text = text ≡ at_text s
 ShowsLine p s (Backward less) text = text ≡ at_text s
@@ -46,7 +46,7 @@ ShowsLine p s (Value name) text =
     (text ≡ variable_word (state_of s).now p.globals name ++ codes "\n")
     × ((state_of s).mode ≡ Ended end.Succeeded → IsMeantWord p s.input s.steps name (variable_word (state_of s).now p.globals name))
 ShowsLine p s Output text =
-    (printed : List ℕ) × (end : End) × Shows p s.input s.steps printed end
+    (printed : List ℕ) × Shows p s.input s.steps printed (shown_end (state_of s).mode (line_in s.code (state_of s)))
     × (text ≡ codes "printed " ++ (decimal (length printed) ++ codes "\n"))
 
 -- what lines show, one after another, where each moves the run before it shows anything

@@ -23,11 +23,14 @@ names_alike (x ∷ xs) (y ∷ ys) e h =
     ap (λ (n : List ℕ). n ∷ names_of xs) (h 0 (omega arith))
     ∙ ap (λ (ns : List (List ℕ)). y.name ∷ ns) (names_alike xs ys (omega (arith, e)) (λ r lt. h (suc r) (omega (arith, lt))))
 
--- the code of a program has its variables, the names of its routines, and version 2
+-- the code of a program has its variables and the names of its routines
 pub keeps_names : (p : Program) (code : PlainCode) → IsCodeOf p code → KeepsNames code p
 keeps_names p code is_code = record {
   variables = ap (λ (c : PlainCode). c.globals) is_code.is;
   routines = names_alike code.routines p.routines (count p code is_code)
       (λ r lt. name_is p code is_code r (omega (arith, lt, count p code is_code)));
-  version = ap (λ (c : PlainCode). c.version) is_code.is;
 }
+
+-- and version 2
+pub version_is : (p : Program) (code : PlainCode) → IsCodeOf p code → code.version ≡ 2
+version_is p code is_code = ap (λ (c : PlainCode). c.version) is_code.is

@@ -15,7 +15,8 @@ use Rattle.alma_lower_implements.specs.Implements.{ComesTo, Implements, line_in,
 use Rattle.alma_lower_implements.specs.Values.{KeepsValues, cell_of_value}
 use Rattle.alma_lower_slots.specs.Same.{DoesTheSame, HoldTheSame, KeepsTables}
 use Rattle.alma_lower.specs.CodeFor.{IsCodeFor}
-use Rattle.alma_lower.specs.Names.{KeepsNames, variable_of}
+use Rattle.alma_lower_templates.specs.Compiled.{global_named}
+use Rattle.alma_lower.specs.Names.{KeepsNames}
 
 -- it implements what the code did
 pub implements_the_same : (code new : PlainCode) (p : Program) → DoesTheSame code new → KeepsTables code new → Implements code p
@@ -34,13 +35,12 @@ pub names_the_same : (code new : PlainCode) (p : Program) → KeepsTables code n
 names_the_same code new p tables names = record {
   variables = tables.globals ∙ names.variables;
   routines = tables.names ∙ names.routines;
-  version = tables.version ∙ names.version;
 }
 
 -- where the variables hold the same, they hold what the store does
 values_over : (gs : List Global) (s : Store) (frames frames' : List PlainFrame)
     → AllByRecursion (λ g. (k : ℕ) → k < g.cells → cell_at frames' 0 (g.slot + k) cell.Unknown ≡ cell_at frames 0 (g.slot + k) cell.Unknown)
-    (map variable_of gs)
+    (map global_named gs)
     → AllByRecursion (λ g. (k : ℕ) → k < g.cells
     → cell_at frames 0 (g.slot + k) cell.Unknown ≡ cell_of_value (store.cell_at s 0 (g.slot + k))) gs
     → AllByRecursion (λ g. (k : ℕ) → k < g.cells
@@ -69,6 +69,7 @@ code_for_the_same code new p same tables sound reads is = record {
   values = values_the_same code new p same is.names is.values;
   reads = reads ∙ is.reads;
   names = names_the_same code new p tables is.names;
+  version = tables.version ∙ is.version;
 }
 
 -- what follows from a fact of the answer holds of it

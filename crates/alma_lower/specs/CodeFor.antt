@@ -9,10 +9,12 @@ use Rattle.alma_lower_implements.specs.Values.{KeepsValues}
 use Rattle.alma_lower_sound.specs.Reads.{program_reads}
 use Rattle.alma_lower.specs.Names.{KeepsNames}
 
--- the code is sound, implements the program, ends with its values where it succeeds, reads exactly where it does, and keeps its names
+-- the code is sound, implements the program, ends with its values where it succeeds, reads exactly where it does, keeps its names, and is
+-- of version 2
 pub record IsCodeFor (p : Program) (code : PlainCode) : Type 0 where
   pub sound : IsSound code
   pub implements : Implements code p
   pub values : KeepsValues code p
   pub reads : code_reads code ≡ program_reads p
   pub names : KeepsNames code p
+  pub version : code.version ≡ 2

@@ -26,8 +26,18 @@ pub enum LowerError {
     Memory,
 }
 
-/// A code that implements the program: a machine on it does what the program means, each fault at the line of its
-/// statement, and where it succeeds the variables of the module hold what the meaning gives them.
+impl From<NoMemory> for LowerError {
+    ghost use Rattle.std.specs.Prelude.{◌≡◌};
+    ghost use Rattle.alma_lower.specs.declared.lowering.LowerError.TheVariants.{Memory};
+
+    ghost from_gives = { λ _ error. error ≡ Memory };
+
+    fn from(_: NoMemory) -> Self {
+        LowerError::Memory
+    }
+}
+
+/// The code of a program, whose temporaries share slots. `Memory` is the answer past a limit of codes, too.
 pub fn lower(alloc: Global, program: &Program) -> Result<Code, LowerError>
     requires checked { IsChecked (program_of program.now) }
     ensures code { IfOk result (λ code. IsCodeFor (program_of program.now) (code_of code)) }
@@ -45,23 +55,6 @@ pub fn lower(alloc: Global, program: &Program) -> Result<Code, LowerError>
     if size > SIZE_LIMIT {
         return Err(LowerError::TooMuchCode(size));
     }
-    match with_few_slots(alloc, program) {
-        Ok(code) => Ok(code),
-        Err(NoMemory) => Err(LowerError::Memory),
-    }
-}
-
-// The code of a program whose temporaries share slots.
-fn with_few_slots(alloc: Global, program: &Program) -> Result<Code, NoMemory>
-    requires checked { IsChecked (program_of program.now) }
-    requires size { 16 * nodes (program_of program.now) ≤ size_limit }
-    ensures code { IfOk result (λ code. IsCodeFor (program_of program.now) (code_of code)) }
-    ensures version { IfOk result (λ code. KeepsVersion (code_of code)) }
-    ensures counts { IfOk result (λ code. KeepsCounts (code_of code)) }
-    ensures records { IfOk result (λ code. KeepsRecords (code_of code)) }
-    ensures few { IfOk result (λ code.
-        length (code_of code).instrs ≤ 16 * nodes (program_of program.now)) }
-{
     let code = compiled(alloc, program)?;
-    share_slots(alloc, code)
+    Ok(share_slots(alloc, code)?)
 }

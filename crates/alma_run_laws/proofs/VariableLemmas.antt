@@ -17,23 +17,15 @@ use Rattle.alma_lower_implements.specs.Implements.{state_after}
 use Rattle.alma_lower_implements.specs.Values.{KeepsValues, cell_of_value}
 use Rattle.alma_mean.specs.Store.{Store}
 use Rattle.alma_mean.specs.Store as store
-use Rattle.alma_lower.specs.Names.{KeepsNames, variable_of}
-use Rattle.alma_run_laws.specs.Variables.{value_of_variable, variable_word, frames_of_store, IsMeantWord}
-
--- a name has one value among the variables, and as code names them
-one_value : (frames : List PlainFrame) (gs : List Global) (name : List ℕ)
-    → value_of_name frames (map variable_of gs) name ≡ value_of_variable frames gs name
-one_value frames [] name = refl
-one_value frames (g ∷ rest) name =
-    ap (λ (later : List ℕ). if_true (same_name g.name name) (λ _. cells_text frames g.slot g.cells) (λ _. later))
-    (one_value frames rest name)
+use Rattle.alma_lower.specs.Names.{KeepsNames, global_named}
+use Rattle.alma_run_laws.specs.Variables.{variable_word, frames_of_store, IsMeantWord}
 
 -- what is shown of a watched name is the value of the variable
 pub variables_shown : (code : PlainCode) (p : Program) (names : List (List ℕ)) (s : State) → KeepsNames code p
     → watched_words code names s ≡ map (variable_word s.now p.globals) names
 variables_shown code p [] s keeps = refl
 variables_shown code p (name ∷ rest) s keeps =
-    let value = ap (λ (gs : List PlainGlobal). value_of_name s.now gs name) keeps.variables ∙ one_value s.now p.globals name in
+    let value = ap (λ (gs : List PlainGlobal). value_of_name s.now gs name) keeps.variables in
     ap (λ (v : List ℕ). (name ++ 61 ∷ v) ∷ watched_words code rest s) value
     ∙ ap (λ (words : List (List ℕ)). variable_word s.now p.globals name ∷ words) (variables_shown code p rest s keeps)
 
@@ -82,10 +74,10 @@ one_text frames frames' slot (suc (suc n)) same =
 value_in_store : (s : Store) (frames : List PlainFrame) (gs : List Global) (name : List ℕ)
     → AllByRecursion (λ g. (k : ℕ) → k < g.cells
     → cell_at frames 0 (g.slot + k) cell.Unknown ≡ cell_of_value (store.cell_at s 0 (g.slot + k))) gs
-    → value_of_variable frames gs name ≡ value_of_variable (frames_of_store s) gs name
+    → value_of_name frames (map global_named gs) name ≡ value_of_name (frames_of_store s) (map global_named gs) name
 value_in_store s frames [] name holds = refl
 value_in_store s frames (g ∷ rest) name holds =
-    ap (λ (value : List ℕ). if_true (same_name g.name name) (λ _. value) (λ _. value_of_variable frames rest name))
+    ap (λ (value : List ℕ). if_true (same_name g.name name) (λ _. value) (λ _. value_of_name frames (map global_named rest) name))
     (one_text frames (frames_of_store s) g.slot g.cells
     (λ k lt. holds.0 k lt ∙ sym (get_mapped (get_or s 0 store.no_frame).cells (g.slot + k))))
     ∙ ap (λ (later : List ℕ). if_true (same_name g.name name) (λ _. cells_text (frames_of_store s) g.slot g.cells) (λ _. later))

@@ -1,23 +1,17 @@
 -- What a trace or a walk shows of the variables of a source.
-use Rattle.std.specs.Prelude.{◌≡◌, ℕ, suc, List, [], ◌∷◌, ◌++◌, map, get_or, codes, Some}
-use Rattle.alma_base.specs.Choice.{if_true}
+use Rattle.std.specs.Prelude.{◌≡◌, ℕ, suc, List, [], ◌∷◌, ◌++◌, map, get_or, Some}
 use Rattle.alma_ir.specs.Tree.{Program, Global}
 use Rattle.alma_code.specs.Picture.{PlainFrame, no_frame}
-use Rattle.alma_code.specs.TraceText.{same_name, cells_text}
+use Rattle.alma_code.specs.TraceText.{value_of_name}
+use Rattle.alma_lower.specs.Names.{global_named}
 use Rattle.alma_lower_implements.specs.Values.{first_store, cell_of_value}
 use Rattle.alma_mean.specs.Meaning.{ev_program}
 use Rattle.alma_mean.specs.Store.{Store}
 use Rattle.alma_mean.specs.Store as store
 
--- the value of the first variable with a name: its cells in the frame of the module, from its slot on; - where there is none
-abbrev pub value_of_variable : List PlainFrame → List Global → (name : List ℕ) → List ℕ
-value_of_variable frames [] name = codes "-"
-value_of_variable frames (g ∷ rest) name =
-    if_true (same_name g.name name) (λ _. cells_text frames g.slot g.cells) (λ _. value_of_variable frames rest name)
-
--- NAME=VALUE
+-- NAME=VALUE, with the value of the first variable with the name: its cells in the frame of the module; - where there is none
 abbrev pub variable_word : List PlainFrame → List Global → (name : List ℕ) → List ℕ
-variable_word frames globals name = name ++ 61 ∷ value_of_variable frames globals name
+variable_word frames globals name = name ++ 61 ∷ value_of_name frames (map global_named globals) name
 
 -- the frame of the module in a store of the meaning, as the machine has it
 abbrev pub frames_of_store : Store → List PlainFrame

@@ -7,9 +7,9 @@ use Rattle.alma_lower_sound.proofs.Records.{code_keeps_records}
 use Rattle.alma_lower_sound.proofs.Sound.{code_is_sound}
 use Rattle.alma_lower_templates.proofs.Law.{code_implements, code_keeps_values}
 use Rattle.alma_lower_templates.proofs.Sizes.{code_is_short}
-use Rattle.alma_lower.proofs.Naming.{keeps_names}
+use Rattle.alma_lower.proofs.Naming.{keeps_names, version_is}
 use Rattle.alma_lower.proofs.Sharing.{code_for_the_same, of_answer, of_answers}
-use Rattle.alma_lower.proofs.lowering.with_few_slots.Goals as goal
+use Rattle.alma_lower.proofs.lowering.lower.Goals as goal
 
 pub share_slots-requires-clause-sound : goal.share_slots-requires-clause-sound
 share_slots-requires-clause-sound c =
@@ -41,6 +41,7 @@ returns-clause-code c =
       values = code_keeps_values _ _ checked h.integers h.code;
       reads = reads_alike _ _ h.code;
       names = keeps_names _ _ h.code;
+      version = version_is _ _ h.code;
     })) e.same e.tables e.sound e.reads
 
 pub returns-clause-few : goal.returns-clause-few
