@@ -1,5 +1,6 @@
 -- Of contracts between the functions of this crate.
-use Rattle.std.specs.Prelude.{◌≡◌, ◌≤◌, List, ℕ, [], ◌∷◌, map, Result, Ok, Err}
+use Rattle.std.specs.Prelude.{◌≡◌, ◌≤◌, ◌<◌, ◌*◌, List, ℕ, [], ◌∷◌, length, map, Result, Ok, Err}
+use Rattle.std.specs.List.{All}
 use Rattle.alma_io.specs.Fronts.{AppendsFront}
 use Rattle.alma_io.specs.Outside.{Gains, FailsWithin}
 use Rattle.alma_io.specs.Sides.{SinkSide}
@@ -10,6 +11,7 @@ use Rattle.alma_back.specs.declared.end.BackEnd.{BackEnd}
 use Rattle.alma_back.specs.declared.end.BackEnd.TheVariants.{Walked, BadLine, Refused}
 use Rattle.alma_back.specs.declared.script.Line as read
 use Rattle.alma_back.specs.declared.script.Line.TheVariants as of_script
+use Rattle.alma_back.specs.Standing.{step_limit}
 use Rattle.alma_back.specs.Script.{Line, Forward, Backward, Value, Output, Texts, lines_in, greatest_count}
 
 -- ---- lines
@@ -30,6 +32,11 @@ IsShort (of_script.Forward steps) = steps ≤ greatest_count
 IsShort (of_script.Backward steps) = steps ≤ greatest_count
 IsShort (of_script.Value name) = Unit {0}
 IsShort of_script.Output = Unit {0}
+
+-- lines that can be walked: each is short, and all together ask for fewer steps than can be kept
+pub record AreWalkable (lines : List read.Line) : Type 0 where
+  pub short : All IsShort lines
+  pub few : length lines * greatest_count < step_limit
 
 -- a text without a line feed
 abbrev pub none_ended : List ℕ → Texts

@@ -1,6 +1,6 @@
 // What the lines of a script show.
-ghost use Rattle.std.specs.Prelude.{◌≡◌, ◌≤◌, ◌<◌, ◌+◌, ◌*◌, length, All, OnOk};
-ghost use Rattle.alma_back.specs.Inner.{line_of, lines_of, IsShort, Shows};
+ghost use Rattle.std.specs.Prelude.{◌≡◌, ◌≤◌, ◌<◌, ◌+◌, ◌*◌, OnOk};
+ghost use Rattle.alma_back.specs.Inner.{AreWalkable, IsShort, Shows, line_of, lines_of};
 ghost use Rattle.alma_back.specs.Script.{greatest_count};
 ghost use Rattle.alma_back.specs.Session.{ahead, behind, after_line, line_text, lines_text, value_text};
 ghost use Rattle.alma_back.specs.Standing.{step_limit};
@@ -105,9 +105,8 @@ pub fn show_lines<O: Sink>(
     lines: &[Line<'_>],
     out: &mut O,
 ) -> Result<(), Stop>
-    requires short { All IsShort lines.now }
+    requires walkable { AreWalkable lines.now }
     requires fresh { back.old.steps ≡ 0 }
-    requires few { length lines.now * greatest_count < step_limit }
     ensures { Shows (O.side out.old) (O.side out.new)
         (lines_text back.old (lines_of lines.now)) result }
 {

@@ -1,5 +1,5 @@
 // A walk, when both files are there.
-ghost use Rattle.std.specs.Prelude.{◌≤◌, ◌<◌, ◌*◌, All, length};
+ghost use Rattle.std.specs.Prelude.{◌≤◌, ◌<◌, length};
 ghost use Rattle.alma_base.specs.Limits.{input_limit};
 ghost use Rattle.alma_code.specs.Reads.{code_reads};
 ghost use Rattle.alma_io.specs.Sides.{FilesSide};
@@ -10,10 +10,8 @@ ghost use Rattle.alma_plan.specs.Objects.{object_refusal};
 ghost use Rattle.alma_plan.specs.Plan.{Reads, prints, IsDue, plain};
 ghost use Rattle.alma_back.specs.Due.{program, verify_plan, walk_plan, walked_on, script_limit};
 ghost use Rattle.alma_back.specs.Ends.{back_end};
-ghost use Rattle.alma_back.specs.Inner.{lines_of, IsShort};
-ghost use Rattle.alma_back.specs.Script.{greatest_count};
+ghost use Rattle.alma_back.specs.Inner.{AreWalkable, lines_of};
 ghost use Rattle.alma_back.specs.Session.{session};
-ghost use Rattle.alma_back.specs.Standing.{step_limit};
 
 use crate::back::Back;
 use crate::end::BackEnd;
@@ -33,8 +31,7 @@ fn walk_on<O: Sink>(
     input: &[u8],
     out: &mut O,
 ) -> BackEnd
-    requires short { All IsShort lines.now }
-    requires few { length lines.now * greatest_count < step_limit }
+    requires walkable { AreWalkable lines.now }
     requires lawful { length input.now ≤ input_limit }
     ensures { Goes program
         (IsDue (prints (session (code_of_verified code.entry) input.now (lines_of lines.now))))
@@ -57,8 +54,7 @@ fn walk_reading<I: Source, O: Sink>(
     input: &mut I,
     out: &mut O,
 ) -> BackEnd
-    requires short { All IsShort lines.now }
-    requires few { length lines.now * greatest_count < step_limit }
+    requires { AreWalkable lines.now }
     ensures { (files : FilesSide) → Follows plain program
         (Reads (λ bytes. prints (session (code_of_verified code.entry) bytes (lines_of lines.now))))
         files files (I.side input.old) (I.side input.new) (O.side out.old) (O.side out.new)
@@ -78,8 +74,7 @@ fn walk<I: Source, O: Sink>(
     input: &mut I,
     out: &mut O,
 ) -> BackEnd
-    requires short { All IsShort lines.now }
-    requires few { length lines.now * greatest_count < step_limit }
+    requires { AreWalkable lines.now }
     ensures { (files : FilesSide) → Follows plain program
         (walked_on (code_reads (code_of_verified code.entry)) (code_of_verified code.entry)
         (lines_of lines.now)) files files (I.side input.old) (I.side input.new) (O.side out.old)
@@ -99,8 +94,7 @@ fn walk_object<I: Source, O: Sink>(
     input: &mut I,
     out: &mut O,
 ) -> BackEnd
-    requires short { All IsShort lines.now }
-    requires few { length lines.now * greatest_count < step_limit }
+    requires { AreWalkable lines.now }
     ensures { (files : FilesSide) → Follows plain program
         (walk_plan (object_refusal program object.now)
         (object_code object.now) (lines_of lines.now))
