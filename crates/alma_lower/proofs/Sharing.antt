@@ -1,6 +1,6 @@
 -- What a code keeps whose slots are renamed.
 use Rattle.std.proofs.Common.{◌≡◌, ◌<◌, ◌+◌, ℕ, List, [], ◌∷◌, sym, ap, ◌∙◌, subst}
-use Rattle.std.specs.Prelude.{Result, Ok, Err, IfOk, map}
+use Rattle.std.specs.Prelude.{map}
 use Rattle.std.specs.List.{AllByRecursion}
 use Rattle.alma_code.specs.declared.cell.Cell.TheVariants as cell
 use Rattle.alma_code.specs.Lines.{last_line}
@@ -71,14 +71,3 @@ code_for_the_same code new p same tables sound reads is = record {
   names = names_the_same code new p tables is.names;
   version = tables.version ∙ is.version;
 }
-
--- what follows from a fact of the answer holds of it
-pub of_answer : {A E : Type 0} (r : Result A E) (P Q : A → Type 0) → ((x : A) → P x → Q x) → IfOk r P → IfOk r Q
-of_answer (Ok x) P Q f p = f x p
-of_answer (Err e) P Q f p = tt
-
--- what follows from four facts of the answer holds of it
-pub of_answers : {A E : Type 0} (r : Result A E) (P Q R S T : A → Type 0) → ((x : A) → P x → Q x → R x → S x → T x) → IfOk r P → IfOk r Q
-    → IfOk r R → IfOk r S → IfOk r T
-of_answers (Ok x) P Q R S T f p q r s = f x p q r s
-of_answers (Err e) P Q R S T f p q r s = tt
