@@ -12,6 +12,8 @@ BEGIN IF n < 0 THEN sign := -1 ELSE sign := 1 END END Guarded;
 BEGIN
   FORALL Chosen(-5, s) DO WRITE(s, " ") END;
   WRITELN("by EITHER");
+  FORALL (s = -1) OR (s = 1) DO WRITE(s, " ") END;
+  WRITELN("by OR");
   FORALL Guarded(-5, s) DO WRITE(s, " ") END;
   WRITELN("by IF");
   IF (SOME i := 1 TO 3 DO TRUE END; i = 2) THEN WRITELN("the test stands in the condition: ", i) END;
