@@ -1,5 +1,6 @@
 -- What an instruction needs of the top frame and of the code.
-use Rattle.std.specs.Prelude.{◌≡◌, ◌<◌, ◌≤◌, Bool, true, false, List, length, slice_get}
+use Rattle.std.specs.Prelude.{◌≡◌, ◌+◌, ◌^◌, ◌<◌, ◌≤◌, Bool, true, false, List, ℕ, length, slice_get}
+use Rattle.alma_base.specs.Limits.{input_limit}
 use Rattle.alma_code.specs.declared.instr.Instr.{Instr}
 use Rattle.alma_code.specs.declared.instr.Instr.TheVariants as I
 use Rattle.alma_code.specs.Layout.{IsHead}
@@ -157,3 +158,29 @@ is_link_form (I.Chain to link slot) = true
 is_link_form (I.Outer to link first) = true
 is_link_form (I.OuterSame to link slot) = true
 is_link_form _ = false
+
+-- what is left to each room in turn: an instruction of none of the rooms before it
+abbrev pub LeftToControl : Instr → Type 0
+LeftToControl i = is_first_form i ≡ false
+
+abbrev pub LeftToPlaces : Instr → Type 0
+LeftToPlaces i = LeftToControl i × (is_control_form i ≡ false)
+
+abbrev pub LeftToCells : Instr → Type 0
+LeftToCells i = LeftToPlaces i × (is_place_form i ≡ false)
+
+abbrev pub LeftToChoices : Instr → Type 0
+LeftToChoices i = LeftToCells i × (is_cell_form i ≡ false)
+
+abbrev pub LeftToCalls : Instr → Type 0
+LeftToCalls i = LeftToChoices i × (is_choice_form i ≡ false)
+
+abbrev pub LeftToInput : Instr → Type 0
+LeftToInput i = LeftToCalls i × (is_call_form i ≡ false)
+
+abbrev pub LeftToLinks : Instr → Type 0
+LeftToLinks i = LeftToInput i × (is_read_form i ≡ false)
+
+-- one more choice entry can be counted, and the input is no longer than the limit
+abbrev pub WithinLimits : ℕ → List ℕ → Type 0
+WithinLimits choices input = (choices + 1 < 2 ^ 63) × (length input ≤ input_limit)

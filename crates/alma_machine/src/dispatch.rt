@@ -1,9 +1,9 @@
 // What each instruction does.
-ghost use Rattle.std.specs.Prelude.{false, ◌≡◌, ◌+◌, ◌^◌, ◌<◌, ◌≤◌, List, ℕ, [], length};
+ghost use Rattle.std.specs.Prelude.{◌≡◌, ◌+◌, ◌^◌, ◌<◌, ◌≤◌, List, ℕ, [], length};
 ghost use Rattle.alma_base.specs.Limits.{input_limit};
 ghost use Rattle.alma_code.specs.Machine.{State, act};
 ghost use Rattle.alma_code.specs.Plain.{PlainCode};
-ghost use Rattle.alma_machine.specs.Needs.{Computes, Needs, is_first_form, is_control_form, is_place_form, is_cell_form, is_choice_form, is_call_form, is_read_form};
+ghost use Rattle.alma_machine.specs.Needs.{Computes, Needs, WithinLimits, LeftToControl, LeftToPlaces, LeftToCells, LeftToChoices, LeftToCalls, LeftToInput, LeftToLinks};
 ghost use Rattle.alma_machine_acts.specs.Acts.{Acts, ActsWith};
 ghost use Rattle.alma_machine_acts.specs.Rows.{state_of, HasNumber, put_or_fault};
 
@@ -106,9 +106,8 @@ fn act_control<M: MachineMemory, V: CodeView>(
     input: &[u8],
 ) -> Result<Step, NoMemory>
     requires needs { Needs (V.code view.now) (M.picture registers.old.memory).now instr }
-    requires later { is_first_form instr ≡ false }
-    requires few { registers.old.choices + 1 < 2 ^ 63 }
-    requires lawful { length input.now ≤ input_limit }
+    requires left { LeftToControl instr }
+    requires limits { WithinLimits registers.old.choices input.now }
     ensures acts { Acts (state_of M.picture registers.old) (state_of M.picture registers.new) result
         (act (V.code view.now) input.now instr (state_of M.picture registers.old)) }
     ensures past { (M.picture registers.new.memory).past ≡ (M.picture registers.old.memory).past }
@@ -142,10 +141,8 @@ fn act_places<M: MachineMemory, V: CodeView>(
     input: &[u8],
 ) -> Result<Step, NoMemory>
     requires needs { Needs (V.code view.now) (M.picture registers.old.memory).now instr }
-    requires later { is_first_form instr ≡ false }
-    requires no_control { is_control_form instr ≡ false }
-    requires few { registers.old.choices + 1 < 2 ^ 63 }
-    requires lawful { length input.now ≤ input_limit }
+    requires left { LeftToPlaces instr }
+    requires limits { WithinLimits registers.old.choices input.now }
     ensures acts { Acts (state_of M.picture registers.old) (state_of M.picture registers.new) result
         (act (V.code view.now) input.now instr (state_of M.picture registers.old)) }
     ensures past { (M.picture registers.new.memory).past ≡ (M.picture registers.old.memory).past }
@@ -189,11 +186,8 @@ fn act_cells<M: MachineMemory, V: CodeView>(
     input: &[u8],
 ) -> Result<Step, NoMemory>
     requires needs { Needs (V.code view.now) (M.picture registers.old.memory).now instr }
-    requires later { is_first_form instr ≡ false }
-    requires no_control { is_control_form instr ≡ false }
-    requires no_place { is_place_form instr ≡ false }
-    requires few { registers.old.choices + 1 < 2 ^ 63 }
-    requires lawful { length input.now ≤ input_limit }
+    requires left { LeftToCells instr }
+    requires limits { WithinLimits registers.old.choices input.now }
     ensures acts { Acts (state_of M.picture registers.old) (state_of M.picture registers.new) result
         (act (V.code view.now) input.now instr (state_of M.picture registers.old)) }
     ensures past { (M.picture registers.new.memory).past ≡ (M.picture registers.old.memory).past }
@@ -232,12 +226,8 @@ fn act_choices<M: MachineMemory, V: CodeView>(
     input: &[u8],
 ) -> Result<Step, NoMemory>
     requires needs { Needs (V.code view.now) (M.picture registers.old.memory).now instr }
-    requires later { is_first_form instr ≡ false }
-    requires no_control { is_control_form instr ≡ false }
-    requires no_place { is_place_form instr ≡ false }
-    requires no_cell { is_cell_form instr ≡ false }
-    requires few { registers.old.choices + 1 < 2 ^ 63 }
-    requires lawful { length input.now ≤ input_limit }
+    requires left { LeftToChoices instr }
+    requires limits { WithinLimits registers.old.choices input.now }
     ensures acts { Acts (state_of M.picture registers.old) (state_of M.picture registers.new) result
         (act (V.code view.now) input.now instr (state_of M.picture registers.old)) }
     ensures past { (M.picture registers.new.memory).past ≡ (M.picture registers.old.memory).past }
@@ -263,13 +253,8 @@ fn act_calls<M: MachineMemory, V: CodeView>(
     input: &[u8],
 ) -> Result<Step, NoMemory>
     requires needs { Needs (V.code view.now) (M.picture registers.old.memory).now instr }
-    requires later { is_first_form instr ≡ false }
-    requires no_control { is_control_form instr ≡ false }
-    requires no_place { is_place_form instr ≡ false }
-    requires no_cell { is_cell_form instr ≡ false }
-    requires no_choice { is_choice_form instr ≡ false }
-    requires few { registers.old.choices + 1 < 2 ^ 63 }
-    requires lawful { length input.now ≤ input_limit }
+    requires left { LeftToCalls instr }
+    requires limits { WithinLimits registers.old.choices input.now }
     ensures acts { Acts (state_of M.picture registers.old) (state_of M.picture registers.new) result
         (act (V.code view.now) input.now instr (state_of M.picture registers.old)) }
     ensures past { (M.picture registers.new.memory).past ≡ (M.picture registers.old.memory).past }
@@ -294,14 +279,8 @@ fn act_input<M: MachineMemory, V: CodeView>(
     input: &[u8],
 ) -> Result<Step, NoMemory>
     requires needs { Needs (V.code view.now) (M.picture registers.old.memory).now instr }
-    requires later { is_first_form instr ≡ false }
-    requires no_control { is_control_form instr ≡ false }
-    requires no_place { is_place_form instr ≡ false }
-    requires no_cell { is_cell_form instr ≡ false }
-    requires no_choice { is_choice_form instr ≡ false }
-    requires no_call { is_call_form instr ≡ false }
-    requires few { registers.old.choices + 1 < 2 ^ 63 }
-    requires lawful { length input.now ≤ input_limit }
+    requires left { LeftToInput instr }
+    requires limits { WithinLimits registers.old.choices input.now }
     ensures acts { Acts (state_of M.picture registers.old) (state_of M.picture registers.new) result
         (act (V.code view.now) input.now instr (state_of M.picture registers.old)) }
     ensures past { (M.picture registers.new.memory).past ≡ (M.picture registers.old.memory).past }
@@ -328,15 +307,8 @@ fn act_links<M: MachineMemory, V: CodeView>(
     input: &[u8],
 ) -> Result<Step, NoMemory>
     requires needs { Needs (V.code view.now) (M.picture registers.old.memory).now instr }
-    requires later { is_first_form instr ≡ false }
-    requires no_control { is_control_form instr ≡ false }
-    requires no_place { is_place_form instr ≡ false }
-    requires no_cell { is_cell_form instr ≡ false }
-    requires no_choice { is_choice_form instr ≡ false }
-    requires no_call { is_call_form instr ≡ false }
-    requires no_read { is_read_form instr ≡ false }
-    requires few { registers.old.choices + 1 < 2 ^ 63 }
-    requires lawful { length input.now ≤ input_limit }
+    requires left { LeftToLinks instr }
+    requires limits { WithinLimits registers.old.choices input.now }
     ensures acts { Acts (state_of M.picture registers.old) (state_of M.picture registers.new) result
         (act (V.code view.now) input.now instr (state_of M.picture registers.old)) }
     ensures past { (M.picture registers.new.memory).past ≡ (M.picture registers.old.memory).past }

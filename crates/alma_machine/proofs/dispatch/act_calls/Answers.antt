@@ -11,14 +11,8 @@ act_input-requires g c =
     let d = c.in_default in
     record {
       needs = c.requires.needs;
-      later = c.requires.later;
-      no_control = c.requires.no_control;
-      no_place = c.requires.no_place;
-      no_cell = c.requires.no_cell;
-      no_choice = c.requires.no_choice;
-      no_call = call_else c.args.instr d.not-Call d.not-Return d.not-ReturnValue;
-      few = c.requires.few;
-      lawful = c.requires.lawful;
+      left = (c.requires.left, call_else c.args.instr d.not-Call d.not-Return d.not-ReturnValue);
+      limits = c.requires.limits;
     }
 
 pub returns-in-Some-clause-acts : goal.returns-in-Some-clause-acts

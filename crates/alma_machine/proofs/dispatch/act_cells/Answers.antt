@@ -6,10 +6,6 @@ act_choices-requires g c =
     let d = c.in_default in
     record {
       needs = c.requires.needs;
-      later = c.requires.later;
-      no_control = c.requires.no_control;
-      no_place = c.requires.no_place;
-      no_cell = cell_else c.args.instr d.not-Store d.not-Bind d.not-Unify d.not-CopyCells d.not-SameCells;
-      few = c.requires.few;
-      lawful = c.requires.lawful;
+      left = (c.requires.left, cell_else c.args.instr d.not-Store d.not-Bind d.not-Unify d.not-CopyCells d.not-SameCells);
+      limits = c.requires.limits;
     }

@@ -6,8 +6,9 @@ act_places-requires g c =
     let d = c.in_default in
     record {
       needs = c.requires.needs;
-      later = c.requires.later;
-      no_control = control_else c.args.instr d.not-InRange d.not-Jump d.not-JumpZero d.not-Check d.not-Fail d.not-Fault d.not-Step;
-      few = c.requires.few;
-      lawful = c.requires.lawful;
+      left = (
+        c.requires.left,
+        control_else c.args.instr d.not-InRange d.not-Jump d.not-JumpZero d.not-Check d.not-Fail d.not-Fault d.not-Step,
+      );
+      limits = c.requires.limits;
     }

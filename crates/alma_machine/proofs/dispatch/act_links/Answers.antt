@@ -4,6 +4,4 @@ use Rattle.alma_machine.proofs.dispatch.act_links.Goals as goal
 pub unreachable-requires : goal.unreachable-requires
 unreachable-requires g c =
     let d = c.in_default in
-    let r = c.requires in
-    form_is_some c.args.instr r.later r.no_control r.no_place r.no_cell r.no_choice r.no_call r.no_read
-    (link_else c.args.instr d.not-Own d.not-Chain d.not-Outer d.not-OuterSame)
+    form_is_some c.args.instr c.requires.left (link_else c.args.instr d.not-Own d.not-Chain d.not-Outer d.not-OuterSame)

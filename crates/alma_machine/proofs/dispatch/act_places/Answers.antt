@@ -6,9 +6,6 @@ act_cells-requires g c =
     let d = c.in_default in
     record {
       needs = c.requires.needs;
-      later = c.requires.later;
-      no_control = c.requires.no_control;
-      no_place = place_else c.args.instr d.not-Local d.not-Global d.not-Same d.not-Field d.not-Index;
-      few = c.requires.few;
-      lawful = c.requires.lawful;
+      left = (c.requires.left, place_else c.args.instr d.not-Local d.not-Global d.not-Same d.not-Field d.not-Index);
+      limits = c.requires.limits;
     }
