@@ -50,18 +50,9 @@ fn line_with(letter: u8, rest: &[u8]) -> Option<Line<'_>>
     ensures short { IfSome result IsShort }
 {
     match letter {
-        b's' => match count_of(rest) {
-            Some(steps) => Some(Line::Forward(steps)),
-            None => None,
-        },
-        b'b' => match count_of(rest) {
-            Some(steps) => Some(Line::Backward(steps)),
-            None => None,
-        },
-        b'p' => match name_of(rest) {
-            Some(name) => Some(Line::Value(name)),
-            None => None,
-        },
+        b's' => Some(Line::Forward(count_of(rest)?)),
+        b'b' => Some(Line::Backward(count_of(rest)?)),
+        b'p' => Some(Line::Value(name_of(rest)?)),
         _ => None,
     }
 }
