@@ -8,8 +8,9 @@ pub fn division_rounds_down()
     ensures { RoundsDown }
 {}
 
-/// READ on an INTEGER type passes all blanks, takes a sign, if one stands there, and all digits, and finds their
-/// decimal value with that sign and the place behind them, where there is a digit and the value is an INTEGER.
+/// READ on an INTEGER type passes all blanks, takes a sign, if one stands there, and all digits,
+/// and finds their decimal value with that sign and the place behind them, where there is a digit
+/// and the value is an INTEGER.
 #[tactic(auto, using(crate::proofs::Finds::read_finds))]
 pub fn read_finds()
     ensures { ReadFinds }

@@ -3,8 +3,8 @@
 /// The greatest number of bytes of a source.
 pub const SOURCE_LIMIT: usize = 1_048_576;
 
-/// The greatest number of cells of a type, of elements of an array, and of declared cells of a frame and of all
-/// live frames.
+/// The greatest number of cells of a type, of elements of an array, and of declared cells of a
+/// frame and of all live frames.
 pub const CELL_LIMIT: u32 = 1_048_576;
 
 /// The greatest number of live frames, that of the globals included.
@@ -22,7 +22,8 @@ pub const INSTR_LIMIT: u32 = 4_194_304;
 /// The greatest number of slots of a routine of a code, and of runs of slots in all.
 pub const SLOT_LIMIT: u32 = 8_388_608;
 
-/// The greatest number of globals, of parameters in all, of ranges, of texts and of line records of a code.
+/// The greatest number of globals, of parameters in all, of ranges, of texts and of line records of
+/// a code.
 pub const RECORD_LIMIT: u32 = 1_048_576;
 
 /// The greatest number of bytes of all names of a code, and of all its texts.

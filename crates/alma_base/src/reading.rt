@@ -32,7 +32,8 @@ fn skip_blanks(input: &[u8], from: usize) -> usize
     place
 }
 
-// What digits write, or the greatest number of 64 bits where that is greater, and the place behind them.
+// What digits write, or the greatest number of 64 bits where that is greater, and the place behind
+// them.
 #[derive(Clone, Copy)]
 struct Digits {
     magnitude: u64,
@@ -84,8 +85,8 @@ fn read_unsigned(input: &[u8], start: usize, is_negative: bool) -> ReadInt
     }
 }
 
-/// What READ finds from a place of the input on, on an INTEGER type: behind any blanks an optional sign, and all
-/// digits that follow.
+/// What READ finds from a place of the input on, on an INTEGER type: behind any blanks an optional
+/// sign, and all digits that follow.
 pub fn read_int(input: &[u8], from: usize) -> ReadInt
     requires from { from ≤ length input.now }
     ensures { result ≡ number_from input.now from }

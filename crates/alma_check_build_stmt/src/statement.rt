@@ -1,4 +1,5 @@
-// What statements stand for. A part is None where a name in use there is Bad, and then so is the whole.
+// What statements stand for. A part is None where a name in use there is Bad, and then so is the
+// whole.
 ghost use Rattle.std.specs.Prelude.{◌≡◌, None, Some, option_map, IfOk};
 ghost use Rattle.alma_ir.specs.View.{stmt_of, return_option};
 ghost use Rattle.alma_ir.specs.Tree as ir;

@@ -56,7 +56,8 @@ fn take_slots(slot: &mut u32) -> Result<u32, Stop>
     Ok(counter)
 }
 
-/// What a loop starts with: the first of its two hidden slots, and what the name of its variable stands for.
+/// What a loop starts with: the first of its two hidden slots, and what the name of its variable
+/// stands for.
 #[derive(Clone, Copy)]
 pub struct Start {
     pub counter: u32,

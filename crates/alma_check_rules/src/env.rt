@@ -27,15 +27,17 @@ pub struct Heading {
     pub params: Vec<Param>,
 }
 
-/// What RETURN may give in a routine: nothing, or a value of a shape, which is None where the heading is Bad.
+/// What RETURN may give in a routine: nothing, or a value of a shape, which is None where the
+/// heading is Bad.
 #[derive(Clone, Copy)]
 pub enum Returns {
     Nothing,
     Value(Option<u32>),
 }
 
-/// What is round a phrase: the source and its tokens, the shapes of all types so far, the blocks, the heading of each routine by its
-/// number, the names that the innermost block declares with their tokens, and the routine with what RETURN gives there.
+/// What is round a phrase: the source and its tokens, the shapes of all types so far, the blocks,
+/// the heading of each routine by its number, the names that the innermost block declares with
+/// their tokens, and the routine with what RETURN gives there.
 #[derive(Drop)]
 pub struct Env<'e, 's> {
     pub source: &'e [u8],
@@ -48,14 +50,16 @@ pub struct Env<'e, 's> {
     pub returns: Returns,
 }
 
-/// Whether a phrase stands in a constant place, and whether inside FORALL, COMMIT, NOT or a parenthesised sequence.
+/// Whether a phrase stands in a constant place, and whether inside FORALL, COMMIT, NOT or a
+/// parenthesised sequence.
 #[derive(Clone, Copy)]
 pub struct Place {
     pub constant: bool,
     pub inside: bool,
 }
 
-/// What a name in use stands for: no declaration of it is visible, its entry is Bad, or it stands for something.
+/// What a name in use stands for: no declaration of it is visible, its entry is Bad, or it stands
+/// for something.
 #[derive(Clone, Copy)]
 pub enum Found {
     Absent,

@@ -13,7 +13,8 @@ use std::alloc::{AllocError, Global};
 use std::collections::BTreeMap;
 use std::marker::Model;
 
-/// The labels of a CASE that came so far, which are looked through in the time of the logarithm of their number.
+/// The labels of a CASE that came so far, which are looked through in the time of the logarithm of
+/// their number.
 #[derive(Drop)]
 pub struct Labels {
     spans: Vec<Span>,

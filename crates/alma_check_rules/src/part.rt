@@ -2,7 +2,8 @@
 use alma_base::Range;
 use alma_ir::{Desig, Expr, Op, Root, Sel, Test};
 
-/// What an expression stands for: exactly the designator of a variable, another plain expression, or one that is not plain.
+/// What an expression stands for: exactly the designator of a variable, another plain expression,
+/// or one that is not plain.
 #[derive(Drop)]
 pub enum Meaning {
     Place(Desig),
@@ -27,8 +28,8 @@ pub struct Location {
     pub sels: Vec<Sel>,
 }
 
-/// What a designator names: a constant, a variable, a routine by its number with the links up to the one round it, or nothing, since an
-/// index stands on a type that is no array.
+/// What a designator names: a constant, a variable, a routine by its number with the links up to
+/// the one round it, or nothing, since an index stands on a type that is no array.
 #[derive(Drop)]
 pub enum Denotation {
     Constant(u32, i64),
@@ -44,7 +45,8 @@ pub enum Operator {
     Logical,
 }
 
-/// Where an operand stands: behind a sign, under a first operator that is logical or not, and behind which operator.
+/// Where an operand stands: behind a sign, under a first operator that is logical or not, and
+/// behind which operator.
 #[derive(Clone, Copy)]
 pub struct Operand {
     pub signed: bool,

@@ -7,7 +7,8 @@ pub fn each_tree_is_read()
     ensures read { EachTreeIsRead }
 {}
 
-/// The tokens read so far, followed by the shortest rest of each part that is still open, are the spelling of a tree.
+/// The tokens read so far, followed by the shortest rest of each part that is still open, are the
+/// spelling of a tree.
 pub fn each_front_is_finished()
     ensures finished { EachPrefixIsFinished }
 {}
@@ -17,12 +18,14 @@ pub fn each_program_is_read()
     ensures read { EachProgramIsRead }
 {}
 
-/// Where reading ends at an unexpected token, some tree's spelling begins with the tokens before it, and none with them and it.
+/// Where reading ends at an unexpected token, some tree's spelling begins with the tokens before
+/// it, and none with them and it.
 pub fn exact_place()
     ensures exact { ExactPlace }
 {}
 
-/// The depth passes 100 at no token before the one that is refused, and it passes 100 there where that is too deep.
+/// The depth passes 100 at no token before the one that is refused, and it passes 100 there where
+/// that is too deep.
 pub fn exact_depth()
     ensures exact { ExactDepth }
 {}
@@ -37,7 +40,8 @@ pub fn examples_are_read_so()
     ensures told { ExamplesAreReadSo }
 {}
 
-/// Reading a list of kinds ends in what is so of it by trees and depths alone, and nothing else is so of it.
+/// Reading a list of kinds ends in what is so of it by trees and depths alone, and nothing else is
+/// so of it.
 pub fn exact_ends()
     ensures exact { ExactEnds }
 {}

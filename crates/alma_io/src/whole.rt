@@ -10,7 +10,8 @@ use std::alloc::Global;
 // How much of a source one call reads.
 const CHUNK: usize = 65_536;
 
-/// Why not all bytes of a source were read: it failed, more than the limit were left, or memory was wanting.
+/// Why not all bytes of a source were read: it failed, more than the limit were left, or memory was
+/// wanting.
 #[derive(Clone, Copy, Debug, PartialEq, Eq)]
 pub enum ReadAll {
     Fault,
@@ -25,8 +26,8 @@ fn make_buffer(alloc: Global, len: usize) -> Result<Vec<u8>, NoMemory>
     Ok(Vec::from_elem(alloc, 0, len)?)
 }
 
-/// Reads all bytes that are left, if they are at most `limit`. It stops at the first fault. What was read before
-/// an error is lost.
+/// Reads all bytes that are left, if they are at most `limit`. It stops at the first fault. What
+/// was read before an error is lost.
 pub fn read_all<S: Source>(alloc: Global, source: &mut S, limit: usize) -> Result<Vec<u8>, ReadAll>
     requires limit { limit < 2 ^ 62 }
     ensures all { IfOk result

@@ -6,7 +6,8 @@ use std::env::{Env, FillError};
 // The sizes of buffers that are tried for a word; no system hands out a longer word than the last.
 const WORD_SIZES: [usize; 4] = [256, 8_192, 262_144, 8_388_608];
 
-// What stands for a word that is no UTF-8: no request has it at any place, so it is a bad word there.
+// What stands for a word that is no UTF-8: no request has it at any place, so it is a bad word
+// there.
 const NO_TEXT: &str = "--";
 
 // The word at a place of the command line, and None behind the last.
@@ -28,8 +29,8 @@ fn read_word<E: Env>(alloc: Global, env: &E, at: usize) -> Result<Option<String>
     Err(NoMemory)
 }
 
-/// The words behind the program's name, in their order. A word that is no UTF-8 is `--`. Want of memory is also the answer
-/// for a word of more than 8,388,608 bytes.
+/// The words behind the program's name, in their order. A word that is no UTF-8 is `--`. Want of
+/// memory is also the answer for a word of more than 8,388,608 bytes.
 pub fn all_words<E: Env>(alloc: Global, env: &E) -> Result<Vec<String>, NoMemory> {
     let mut words = Vec::new(alloc);
     for at in 1..usize::MAX {

@@ -19,7 +19,8 @@ pub enum Measure {
     TextBytes,
 }
 
-/// How many statements a list has, with those inside them; NoMemory where a u64 does not hold their number.
+/// How many statements a list has, with those inside them; NoMemory where a u64 does not hold their
+/// number.
 #[tactic(auto, using(crate::proofs::Counted::statements_amount))]
 pub fn stmts_inside(body: &[Stmt]) -> Result<usize, NoMemory>
     ensures { IfOk result (λ n. n ≡ stmt_count (stmts_phrases (stmts_list body.now))) }
@@ -35,7 +36,8 @@ pub fn desig_inside(desig: &Desig) -> Result<usize, NoMemory>
     exact(count_desig(Measure::Statements, desig))
 }
 
-/// How many bytes the texts have that stand in a list of statements, or 2^64-1 where that is smaller.
+/// How many bytes the texts have that stand in a list of statements, or 2^64-1 where that is
+/// smaller.
 #[tactic(auto, using(crate::proofs::Counted::texts_amount))]
 pub fn text_bytes_inside(body: &[Stmt]) -> u64
     ensures { result ≡ saturate (sum_by text_bytes (stmts_phrases (stmts_list body.now))) }

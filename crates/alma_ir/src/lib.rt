@@ -1,4 +1,5 @@
-//! The resolved program: its phrases, its size, and how many statements and bytes of texts stand inside a phrase.
+//! The resolved program: its phrases, its size, and how many statements and bytes of texts stand
+//! inside a phrase.
 #![tactic(auto)]
 
 mod count;

@@ -74,7 +74,8 @@ pub struct Loop {
 pub enum Test {
     /// An expression, which is true where it is not 0.
     Value(Expr),
-    /// An equation of a variable and an expression. The flag says that the variable stands on the left.
+    /// An equation of a variable and an expression. The flag says that the variable stands on the
+    /// left.
     Bind(Desig, Expr, Range, bool),
     /// An equation of two variables, each with the range of its type.
     Unify(Desig, Range, Desig, Range),
@@ -93,7 +94,8 @@ pub enum Test {
 pub enum Expr {
     Const(i64),
     Load(Desig),
-    /// A first operand, and operators with their operands, from left to right. The flag negates the first operand.
+    /// A first operand, and operators with their operands, from left to right. The flag negates the
+    /// first operand.
     Chain(bool, Box<Expr>, Vec<Link>),
     Compare(Cmp, Box<Expr>, Box<Expr>),
     /// 1 where the test has an alternative, and else 0.

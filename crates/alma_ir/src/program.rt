@@ -21,8 +21,8 @@ pub struct Global {
 
 /// The body of the module, or a procedure.
 ///
-/// Its slots are those of its parameters, then its variables, then the hidden counters and limits of its loops.
-/// Slot 0 of routine 0 is the input position.
+/// Its slots are those of its parameters, then its variables, then the hidden counters and limits
+/// of its loops. Slot 0 of routine 0 is the input position.
 #[derive(Drop)]
 pub struct Routine {
     pub name: Vec<u8>,

@@ -1,4 +1,5 @@
-// Small programs and what they give at a level, each fact a field of the contract of a function that does nothing.
+// Small programs and what they give at a level, each fact a field of the contract of a function
+// that does nothing.
 ghost use Rattle.alma_mean.specs.Worked.Choices.{ChoicesRun};
 ghost use Rattle.alma_mean.specs.Worked.Equations.{EquationsRun, NumbersRun};
 ghost use Rattle.alma_mean.specs.Worked.Loops.{LoopsRun, QueensRun};

@@ -7,7 +7,8 @@ ghost use Rattle.alma_parse.specs.End.{spell_end, number_end, end_parts};
 use alma_parse_cursor::{Cursor, Fault};
 use alma_tree::{Kind, Name};
 
-/// What stands behind the END of a module: the name there, with the number of the module's node, where no token is left behind the point.
+/// What stands behind the END of a module: the name there, with the number of the module's node,
+/// where no token is left behind the point.
 pub fn end_of_module<'t, 's>(
     at: Cursor<'t, 's>,
 ) -> Result<((Name, u32), Cursor<'t, 's>), Fault<'t, 's>>

@@ -209,7 +209,8 @@ pub fn params<'t, 's>(
     Ok((Some(Params { formals }), at))
 }
 
-/// What stands behind the opening parenthesis of parameters, up to the closing one. The depth is that inside.
+/// What stands behind the opening parenthesis of parameters, up to the closing one. The depth is
+/// that inside.
 fn params_values<'t, 's>(
     alloc: Global,
     at: Cursor<'t, 's>,

@@ -16,8 +16,8 @@ use alma_scan::Token;
 use alma_tree::Module;
 use std::alloc::Global;
 
-/// The concrete tree that the tokens spell; or the index of the first token at which no program goes on, which is the number of tokens
-/// where they end too early.
+/// The concrete tree that the tokens spell; or the index of the first token at which no program
+/// goes on, which is the number of tokens where they end too early.
 pub fn parse(alloc: Global, tokens: &[Token<'_>]) -> Result<Module, ParseError>
     requires few { length tokens.now ≤ source_limit }
     ensures found { IfOk result

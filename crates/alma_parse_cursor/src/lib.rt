@@ -1,4 +1,5 @@
-//! Where the parser stands in the tokens, its single steps, and which form of a phrase the next token begins.
+//! Where the parser stands in the tokens, its single steps, and which form of a phrase the next
+//! token begins.
 #![tactic(auto)]
 
 mod cursor;

@@ -1,4 +1,5 @@
-//! Reading expressions, over a reader of the statements inside them; and what every part of the parser is made with.
+//! Reading expressions, over a reader of the statements inside them; and what every part of the
+//! parser is made with.
 #![tactic(auto)]
 
 mod expression;

@@ -9,7 +9,8 @@ ghost use Rattle.alma_parse_stmt.specs.Heads.{BeginsLoop};
 use alma_parse_cursor::{Cursor, Fault};
 use alma_tree::{Kind, Name};
 
-/// The variable of FOR or SOME, behind that word and before the sign of assignment, and the depth there.
+/// The variable of FOR or SOME, behind that word and before the sign of assignment, and the depth
+/// there.
 pub fn loop_head<'t, 's>(
     at: Cursor<'t, 's>,
     word: Kind,

@@ -60,7 +60,8 @@ pub fn stmts<'t, 's>(
     )
 }
 
-/// The statements that stand in a statement or a parenthesis, where fewer than `left` tokens are left.
+/// The statements that stand in a statement or a parenthesis, where fewer than `left` tokens are
+/// left.
 #[cycle(phrases)]
 fn inside<'t, 's>(
     alloc: Global,

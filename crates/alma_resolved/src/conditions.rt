@@ -16,8 +16,8 @@ pub fn trees_of_the_parser_stand_so()
     ensures { (m : Module) (tokens : ℕ) → IsNumbered m tokens → BlockStands (view_module m).block }
 {}
 
-/// Each routine of a resolved program fits: its phrases fit its place, its loops have hidden slots of their own behind its frame,
-/// and the ranges of its heading are in order.
+/// Each routine of a resolved program fits: its phrases fit its place, its loops have hidden slots
+/// of their own behind its frame, and the ranges of its heading are in order.
 pub fn resolved_programs_fit()
     ensures { (source : List ℕ) (tokens : List Lexeme) (m : tree.Module) (p : Program)
         → BlockStands m.block →
@@ -38,7 +38,8 @@ pub fn resolved_programs_have_their_names()
         resolution source tokens (view_module m) ≡ Some p → NamesSpelled p }
 {}
 
-/// The resolved program of a source's tree is checked, where it keeps the limits on the whole and on slots.
+/// The resolved program of a source's tree is checked, where it keeps the limits on the whole and
+/// on slots.
 pub fn a_resolved_program_is_checked()
     ensures { (source : List ℕ) (tokens : List Lexeme) (m : Module) (p : Program)
         → IsTreeOf source tokens m →

@@ -10,14 +10,16 @@ ghost use Rattle.alma_rules.specs.Modules.{resolution};
 ghost use Rattle.alma_resolved.specs.Room.{HasRoom};
 ghost use Rattle.alma_resolved.specs.Whole.{IsTreeOf, KeepsSlots};
 
-/// The resolved program of a short source's tree keeps the limits on globals, parameters, bytes of names and bytes of texts.
+/// The resolved program of a short source's tree keeps the limits on globals, parameters, bytes of
+/// names and bytes of texts.
 pub fn resolved_programs_keep_their_limits()
     ensures { (source : List ℕ) (tokens : List Lexeme) (m : Module) (p : Program)
         → length source ≤ source_limit → IsTreeOf source tokens m →
         resolution source tokens (view_module m) ≡ Some p → KeepsLimits p }
 {}
 
-/// The names and the texts of the resolved program of a short source's tree have room in a program with a few texts more.
+/// The names and the texts of the resolved program of a short source's tree have room in a program
+/// with a few texts more.
 pub fn a_resolved_program_of_a_short_source_has_room()
     ensures { (source : List ℕ) (tokens : List Lexeme) (m : Module) (p : Program)
         → length source ≤ source_limit → IsTreeOf source tokens m →

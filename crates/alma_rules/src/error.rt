@@ -28,7 +28,8 @@ impl<T: Drop> From<AllocFailed<T>> for Stop {
     }
 }
 
-/// The broken rule with the number of its node and the index of that node's first token, or want of memory.
+/// The broken rule with the number of its node and the index of that node's first token, or want of
+/// memory.
 #[derive(Clone, Copy)]
 pub enum CheckError {
     Fault(CheckFault, u32, usize),

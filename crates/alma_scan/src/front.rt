@@ -105,7 +105,8 @@ fn symbol_front(bytes: &[u8]) -> Result<Front<'_>, LexFault>
     symbol_of(bytes, 1).ok_or(LexFault::BadByte)
 }
 
-/// The token at the front of bytes that begin with no blank and with no whole comment, or the fault there.
+/// The token at the front of bytes that begin with no blank and with no whole comment, or the fault
+/// there.
 pub fn read_front(bytes: &[u8]) -> Result<Front<'_>, LexFault>
     requires gap_end { IsGapEnd bytes.now }
     requires some { bytes.now ≡ [] → ⊥ }

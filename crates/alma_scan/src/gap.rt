@@ -19,7 +19,8 @@ pub fn skip_two(bytes: &[u8], first: u8, second: u8) -> Option<&[u8]>
     }
 }
 
-/// What stands behind a comment, of which these bytes stand behind `(*`; None where it does not end.
+/// What stands behind a comment, of which these bytes stand behind `(*`; None where it does not
+/// end.
 #[tactic(auto, using(crate::proofs::Comments::same_start, crate::proofs::Comments::same_opened, crate::proofs::Comments::same_closed, crate::proofs::Comments::same_end, crate::proofs::Comments::same_byte, crate::proofs::Comments::same_none))]
 fn skip_comment(bytes: &[u8]) -> Option<&[u8]>
     ensures { MatchOption result ((rest : List ℕ) → Closes bytes.now rest → ⊥)

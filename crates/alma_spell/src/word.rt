@@ -14,7 +14,8 @@ pub fn push(kind: Kind, out: &mut Vec<Kind>) -> Result<(), NoMemory>
     Ok(())
 }
 
-// What is spelled so far. Where memory ran out nothing more is put behind it, so that the walk need not look.
+// What is spelled so far. Where memory ran out nothing more is put behind it, so that the walk need
+// not look.
 #[derive(Drop)]
 pub(crate) struct Spelled {
     kinds: Vec<Kind>,

@@ -4,7 +4,8 @@ ghost use Rattle.alma_tree.specs.Depth as brackets;
 
 use crate::Kind;
 
-/// The greatest number of brackets that are open behind any front of the list: those opened less those closed.
+/// The greatest number of brackets that are open behind any front of the list: those opened less
+/// those closed.
 pub fn depth(kinds: &[Kind]) -> u32
     requires bounded { length kinds.now < 2 ^ 32 }
     ensures greatest { result ≡ brackets.depth kinds.now }

@@ -1,4 +1,5 @@
-//! The concrete tree of a source: what it is made of, and the kinds of the tokens that it stands for.
+//! The concrete tree of a source: what it is made of, and the kinds of the tokens that it stands
+//! for.
 #![tactic(auto)]
 
 mod bracket;

@@ -1,4 +1,5 @@
-// Statements, expressions and designators. `node` is a number in post-order, `token` the index of a token.
+// Statements, expressions and designators. `node` is a number in post-order, `token` the index of a
+// token.
 use crate::leaf::{AddOperator, Leaf, MulOperator, Name, Relation, Sign};
 
 /// `Stmt { ";" Stmt }`

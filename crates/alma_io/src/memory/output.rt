@@ -33,7 +33,8 @@ impl Model for MemSink {
 }
 
 impl MemSink {
-    /// Room for so many bytes, at most `piece` of them in a call. `fails` lists the calls, from 1, that fail.
+    /// Room for so many bytes, at most `piece` of them in a call. `fails` lists the calls, from 1,
+    /// that fail.
     pub fn new(alloc: Global, room: usize, piece: usize, fails: &[u64]) -> Result<MemSink, NoMemory>
         requires { 0 < piece }
         ensures { IfOk result (λ sink. sink ≡ record {
