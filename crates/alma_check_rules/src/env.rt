@@ -82,6 +82,7 @@ impl<'e, 's> Env<'e, 's> {
         }
     }
 
+    /// The count of cells that a value of the shape takes, and 0 for a number that no shape has.
     pub fn cells(&self, shape: u32) -> u32
         ensures { result ≡ cells_at self.now.shapes shape }
     {
@@ -113,12 +114,15 @@ impl<'e, 's> Env<'e, 's> {
         }
     }
 
+    /// Whether it is an array or a record; a number that no shape has counts as one.
     pub fn is_structured(&self, shape: u32) -> bool
         ensures { result ≡ not (is_some (range_at self.now.shapes shape)) }
     {
         self.simple(shape).is_none()
     }
 
+    /// Whether this is its base type: INTEGER has the number 0, CHAR 1 and BOOLEAN 2, and any
+    /// shape but a subrange is its own.
     pub fn has_base(&self, shape: u32, base: u32) -> bool
         ensures { result ≡ nat_eq (base_at self.now.shapes shape) base }
     {
@@ -140,6 +144,7 @@ impl<'e, 's> Env<'e, 's> {
         }
     }
 
+    /// Whether it is a record; a number that no shape has counts as none.
     pub fn is_record(&self, shape: u32) -> bool
         ensures { result ≡ is_record_in (slice_get self.now.shapes shape) }
     {

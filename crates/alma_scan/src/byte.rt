@@ -15,18 +15,21 @@ pub enum Class {
     Inside(u8),
 }
 
+/// A letter of ASCII or the underscore: a name and a reserved word begin with one.
 pub fn is_letter(byte: u8) -> bool
     ensures { result ≡ is_letter byte }
 {
     (b'A' <= byte && byte <= b'Z') || (b'a' <= byte && byte <= b'z') || byte == b'_'
 }
 
+/// `0` to `9`: a number begins with one, and a name may go on with one.
 pub fn is_digit(byte: u8) -> bool
     ensures { result ≡ is_digit byte }
 {
     b'0' <= byte && byte <= b'9'
 }
 
+/// `"` or `'`: a literal begins with one and ends at the next of the same sort.
 pub fn is_quote(byte: u8) -> bool
     ensures { result ≡ is_quote byte }
 {
