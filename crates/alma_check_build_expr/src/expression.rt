@@ -48,6 +48,8 @@ pub fn no_place(meaning: Meaning) -> Meaning
     }
 }
 
+/// A single expression in parentheses: its type and constant value stay, and a variable is now a
+/// value that is loaded.
 pub fn without_place(typed: Option<TypedExpr>) -> Option<TypedExpr>
     ensures { typing_in result ≡ option_map parts.without_place (typing_in typed) }
 {
@@ -78,6 +80,7 @@ pub fn boolean(meaning: Meaning) -> TypedExpr
     }
 }
 
+/// A number, as a constant of type INTEGER (shape 0).
 pub fn integer(value: i64) -> TypedExpr
     ensures { typing_of result ≡ parts.integer_typing value }
 {
@@ -88,6 +91,7 @@ pub fn integer(value: i64) -> TypedExpr
     }
 }
 
+/// The byte of a literal, as a constant of type CHAR (shape 1). Its range is not looked at.
 pub fn character(value: i64) -> TypedExpr
     ensures { typing_of result ≡ parts.char_typing value }
 {
@@ -98,6 +102,7 @@ pub fn character(value: i64) -> TypedExpr
     }
 }
 
+/// ORD of an operand: its value and its constant value stay, and the type is INTEGER (shape 0).
 pub fn ord(alloc: Global, typed: Option<TypedExpr>) -> Result<Option<TypedExpr>, AllocError>
     ensures { IfOk result (λ t. typing_in t ≡ option_map nodes.ord_typing (typing_in typed)) }
 {
@@ -117,6 +122,8 @@ pub fn ord(alloc: Global, typed: Option<TypedExpr>) -> Result<Option<TypedExpr>,
     }
 }
 
+/// CHR of an operand, of type CHAR (shape 1). The constant value stays as it is, in any range:
+/// `pass_chr` comes first.
 pub fn chr(alloc: Global, typed: Option<TypedExpr>) -> Result<Option<TypedExpr>, AllocError>
     ensures { IfOk result (λ t. typing_in t ≡ option_map nodes.chr_typing (typing_in typed)) }
 {
@@ -139,6 +146,7 @@ pub fn chr(alloc: Global, typed: Option<TypedExpr>) -> Result<Option<TypedExpr>,
     }
 }
 
+/// NOT of an operand, as a test of type BOOLEAN that has no constant value.
 pub fn negate(alloc: Global, typed: Option<TypedExpr>) -> Result<Option<TypedExpr>, AllocError>
     ensures { IfOk result (λ t. typing_in t ≡ option_map nodes.not_typing (typing_in typed)) }
 {
@@ -157,6 +165,7 @@ pub fn negate(alloc: Global, typed: Option<TypedExpr>) -> Result<Option<TypedExp
     }
 }
 
+/// A sequence of statements in parentheses, as a test of type BOOLEAN that has no constant value.
 pub fn sequence(body: Option<Vec<Stmt>>) -> Option<TypedExpr>
     ensures { typing_in result ≡ option_map (λ b. parts.boolean_typing (parts.a_test (ir.Seq b)))
         (stmts_in body) }
@@ -196,6 +205,7 @@ pub fn desig(located: Location) -> Desig
     Desig { root, cells, sels }
 }
 
+/// KNOWN of a variable, as a plain expression of type BOOLEAN that has no constant value.
 pub fn known(located: Option<Location>) -> Option<TypedExpr>
     ensures { typing_in result ≡ option_map nodes.known_typing (located_in located) }
 {
@@ -205,6 +215,7 @@ pub fn known(located: Option<Location>) -> Option<TypedExpr>
     }
 }
 
+/// The variable that a designator names; None where it names something else or is Bad.
 pub fn as_located(env: &Env, found: Option<Denotation>) -> Option<Location>
     ensures { located_in result ≡ option_and_then parts.located_in
         (denoted_in (headings_in env.now) found) }
@@ -216,6 +227,8 @@ pub fn as_located(env: &Env, found: Option<Denotation>) -> Option<Location>
     }
 }
 
+/// The routine that a designator names, before its arguments; None where it names something else or
+/// is Bad.
 pub fn as_callee(env: &Env, found: Option<Denotation>) -> Option<Callee>
     ensures { callee_in (headings_in env.now) result ≡ option_and_then parts.callee_in
         (denoted_in (headings_in env.now) found) }
@@ -288,6 +301,8 @@ fn narrowed(located: Location, shape: u32, sel: Sel) -> Result<Location, AllocEr
     })
 }
 
+/// A variable narrowed to its field of this name, by the field's offset and cells; None where there
+/// is no such field. What is no variable stays as it is.
 pub fn select_field(
     env: &Env,
     name: &[u8],
@@ -336,6 +351,8 @@ fn select_element(
     }
 }
 
+/// A variable narrowed to an element, by the index's value, the range of the index type and the
+/// cells of an element; NoArray where it is no array. Else a Bad index (None) makes the whole Bad.
 pub fn select_index(
     alloc: Global,
     env: &Env,
@@ -405,6 +422,8 @@ fn structured_argument(
     }
 }
 
+/// An argument as the call passes it, by its formal's mode and shape: a place, the cells of an
+/// array or a record, or a value with the formal's range. Without a formal the range is INTEGER's.
 pub fn argument(
     alloc: Global,
     env: &Env,

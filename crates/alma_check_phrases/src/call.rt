@@ -22,6 +22,8 @@ use alma_rules::Stop;
 use alma_tree::{Args, Desig, Expr, Exprs, Stmts};
 use std::alloc::Global;
 
+/// A designator as a value, where no argument list stands behind it, and else a call with its
+/// arguments, of which there may be none.
 #[cycle(values)]
 pub fn check_named<S>(
     alloc: Global,

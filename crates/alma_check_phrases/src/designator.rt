@@ -15,6 +15,8 @@ use alma_rules::Stop;
 use alma_tree::{Desig, Expr, Exprs, Selector, Stmts};
 use std::alloc::Global;
 
+/// A designator used as `wanted`: the rule of its name first, then its selectors from left to
+/// right, and last the rules of the whole.
 #[cycle(values)]
 pub fn check_desig<S>(
     alloc: Global,

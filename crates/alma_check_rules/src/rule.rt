@@ -14,6 +14,7 @@ use alma_tree::{Mode, Relation};
 
 // ---- names and designators
 
+/// A name in use: Undeclared where no declaration of it is visible. A Bad name breaks no rule.
 pub fn pass_name(env: &Env, node: u32, found: Found) -> Result<(), Stop>
     ensures { Passes node (rules.name_rules {A = parts.Denotation}
         (found_view (headings_in env.now) found) None) result }
@@ -87,6 +88,8 @@ fn not_procedure(env: &Env, wanted: Use, selected: bool, found: Found) -> bool
     }
 }
 
+/// A designator, behind its selectors: NotConst in a constant place where it is more than the name
+/// of a constant, then NotVariable and NotProcedure by its use. `selected`: it has selectors.
 pub fn pass_desig(
     env: &Env,
     place: Place,
@@ -134,6 +137,8 @@ fn no_field(env: &Env, name: &[u8], found: &Option<Denotation>) -> bool
     }
 }
 
+/// A field selector: NotRecord behind a variable of another type, NoField where the record has no
+/// such field. Behind what is no variable it breaks no rule of its own.
 pub fn pass_field(env: &Env, node: u32, name: &[u8], found: &Option<Denotation>) -> Result<(), Stop>
     ensures { Passes node (rules.field_rules (scene_of env.now somewhere) name.now
         (denoted_in (headings_in env.now) found.now)) result }
@@ -147,6 +152,8 @@ pub fn pass_field(env: &Env, node: u32, name: &[u8], found: &Option<Denotation>)
     Ok(())
 }
 
+/// An index selector, behind all its indices: NotArray where one of them stood behind a variable
+/// that is no array.
 pub fn pass_array(env: &Env, node: u32, found: &Option<Denotation>) -> Result<(), Stop>
     ensures { Passes node (rules.array_rules (denoted_in (headings_in env.now) found.now)) result }
 {
@@ -175,6 +182,8 @@ fn other_index(env: &Env, found: &Option<Denotation>, typed: &Option<TypedExpr>)
     }
 }
 
+/// One index: TypeMismatch where its base type is not that of the array's index type. Behind what
+/// is no array it breaks no rule: that is left to `pass_array`.
 pub fn pass_index(
     env: &Env,
     node: u32,
@@ -265,6 +274,8 @@ fn other_sort(operand: Operand) -> bool
     (operand.sort && arithmetic_operand(operand)) || (!operand.sort && logical_operand(operand))
 }
 
+/// An operand: NotTest under AND or OR where it is not BOOLEAN; TypeMismatch under another operator
+/// or a sign where its base is not INTEGER, and where the first operator is of another sort.
 pub fn pass_operand(
     env: &Env,
     node: u32,
@@ -283,6 +294,8 @@ pub fn pass_operand(
     Ok(())
 }
 
+/// NotConst in a constant place, for what is never constant: a sequence of statements in
+/// parentheses, and a text that WRITE puts out.
 pub fn pass_constant(env: &Env, place: Place, node: u32) -> Result<(), Stop>
     ensures { Passes node (rules.constant_rules (scene_of env.now place)) result }
 {
@@ -292,6 +305,8 @@ pub fn pass_constant(env: &Env, place: Place, node: u32) -> Result<(), Stop>
     Ok(())
 }
 
+/// A factor with NOT: NotConst in a constant place, then the rules of an operand on the whole
+/// factor. What stands behind NOT goes through `pass_test` first.
 pub fn pass_not(
     env: &Env,
     place: Place,
@@ -308,6 +323,7 @@ pub fn pass_not(
     pass_operand(env, node, operand, typed)
 }
 
+/// NotTest where an expression as a statement, as a condition or behind NOT is not BOOLEAN.
 pub fn pass_test(env: &Env, node: u32, typed: &Option<TypedExpr>) -> Result<(), Stop>
     ensures { Passes node (rules.test_rules (scene_of env.now somewhere) (typing_in typed.now))
         result }
@@ -318,6 +334,8 @@ pub fn pass_test(env: &Env, node: u32, typed: &Option<TypedExpr>) -> Result<(), 
     Ok(())
 }
 
+/// TypeMismatch where the operand of ORD, or a single expression in parentheses, is an array or a
+/// record.
 pub fn pass_simple(env: &Env, node: u32, typed: &Option<TypedExpr>) -> Result<(), Stop>
     ensures { Passes node (rules.simple_rules (scene_of env.now somewhere) (typing_in typed.now))
         result }
@@ -330,6 +348,8 @@ pub fn pass_simple(env: &Env, node: u32, typed: &Option<TypedExpr>) -> Result<()
 
 // ---- primaries
 
+/// A literal, by the text between its quotes: where that is not one byte, NotConst in a constant
+/// place and TypeMismatch in any other.
 pub fn pass_literal(env: &Env, place: Place, node: u32, text: &[u8]) -> Result<(), Stop>
     ensures { Passes node (rules.literal_rules (scene_of env.now place) text.now None) result }
 {
@@ -354,6 +374,8 @@ fn other_count(env: &Env, count: usize, callee: Option<Callee>) -> bool
     }
 }
 
+/// A call: NotConst in a constant place, then ArgCount where the count of arguments is not that of
+/// the formals. A callee that is Bad (None) may have any count.
 pub fn pass_call(
     env: &Env,
     place: Place,
@@ -383,6 +405,8 @@ fn structured_place(env: &Env, located: &Option<Location>) -> bool
     }
 }
 
+/// KNOWN: NotConst in a constant place, then TypeMismatch where its variable is an array or a
+/// record.
 pub fn pass_known(
     env: &Env,
     place: Place,
@@ -420,6 +444,8 @@ fn no_char(env: &Env, place: Place, typed: &Option<TypedExpr>) -> bool
     }
 }
 
+/// CHR: TypeMismatch where the base of its operand is not INTEGER, then ConstRange in a constant
+/// place where the value is not in 0 to 255.
 pub fn pass_chr(env: &Env, place: Place, node: u32, typed: &Option<TypedExpr>) -> Result<(), Stop>
     ensures { Passes node (rules.chr_rules (scene_of env.now place) (typing_in typed.now)) result }
 {
@@ -440,6 +466,8 @@ fn is_equation(relation: Relation) -> bool
     matches!(relation, Relation::Equal)
 }
 
+/// A relation: NotConst in a constant place, then TypeMismatch where the sides differ in base type,
+/// or where arrays or records stand in another relation than `=`.
 pub fn pass_relation(
     env: &Env,
     place: Place,
@@ -499,6 +527,8 @@ fn other_type(formal: Formal, typed: &Option<TypedExpr>) -> bool
     }
 }
 
+/// An argument: to VAR, NotDesignator where it is no variable; to VAR or MIX, ModeType for a
+/// variable of another type; TypeMismatch for a value of another base type.
 pub fn pass_argument(
     env: &Env,
     node: u32,

@@ -13,6 +13,8 @@ use alma_parse_cursor::{Cursor, DeclForm, Fault};
 use alma_tree::{Block, Decl, Kind};
 use std::alloc::Global;
 
+/// Declarations, of which there may be none, and the body, if there is one; END is left to the
+/// caller. `depth` counts the brackets that are open here.
 #[cycle(declarations)]
 pub fn block<'t, 's>(
     alloc: Global,

@@ -191,6 +191,8 @@ fn var_entry<'t, 's>(
     Ok((VarEntry { names, type_node }, at))
 }
 
+/// The parameters of a procedure with their parentheses, which may be empty; None where no `(`
+/// stands here. `depth` is that before the parenthesis.
 pub fn params<'t, 's>(
     alloc: Global,
     at: Cursor<'t, 's>,

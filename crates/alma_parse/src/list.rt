@@ -10,6 +10,8 @@ use alma_parse_cursor::{Cursor, Fault};
 use alma_tree::{Kind, Name, Names};
 use std::alloc::Global;
 
+/// One name or more with commas between them: of variables, fields, formals or values of an
+/// enumeration. They open no bracket, so that no depth is asked for.
 pub fn names<'t, 's>(
     alloc: Global,
     at: Cursor<'t, 's>,

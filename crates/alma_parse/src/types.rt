@@ -17,6 +17,8 @@ use alma_parse_stmt::expr;
 use alma_tree::{Arrays, Dimensions, FieldList, Kind, PlainType, TypeNode};
 use std::alloc::Global;
 
+/// A type: any number of ARRAY parts, each to its OF, and a type of another form. `depth` counts
+/// the brackets that are open here.
 #[cycle(types)]
 pub fn type_node<'t, 's>(
     alloc: Global,

@@ -20,6 +20,8 @@ use alma_parse_expr::{StmtsRead, boxed, expr, present, pushed};
 use alma_tree::{Arm, Elsif, Expr, Kind, Label, Stmt, Stmts};
 use std::alloc::Global;
 
+/// IF to its END, with any ELSIF parts and an ELSE part, if there is one. `depth` is that before
+/// IF, and `inside` reads the statements in it.
 pub fn if_stmt<'t, 's, S>(
     alloc: Global,
     at: Cursor<'t, 's>,
@@ -85,6 +87,7 @@ where
     present(nested(alloc, at, depth, inside))
 }
 
+/// WHILE to its END. `depth` is that before WHILE, and `inside` reads the statements in it.
 pub fn while_stmt<'t, 's, S>(
     alloc: Global,
     at: Cursor<'t, 's>,
@@ -106,6 +109,8 @@ where
     )
 }
 
+/// REPEAT, its body and the test behind UNTIL. UNTIL closes the bracket, so that the test is read
+/// at `depth`, which is that before REPEAT. `inside` reads the statements in it.
 pub fn repeat_stmt<'t, 's, S>(
     alloc: Global,
     at: Cursor<'t, 's>,
@@ -124,6 +129,8 @@ where
     repeat_of(body, numbered(expr(alloc, at, depth, inside)))
 }
 
+/// FOR to its END, with the step, if BY gives one. `depth` is that before FOR, and `inside` reads
+/// the statements in it.
 pub fn for_stmt<'t, 's, S>(
     alloc: Global,
     at: Cursor<'t, 's>,
@@ -165,6 +172,8 @@ where
     present(expr(alloc, at, depth, inside))
 }
 
+/// CASE to its END: one arm or more, any of which may be empty, and an ELSE part, if there is one.
+/// `depth` is that before CASE, and `inside` reads the statements in it.
 pub fn case_stmt<'t, 's, S>(
     alloc: Global,
     at: Cursor<'t, 's>,

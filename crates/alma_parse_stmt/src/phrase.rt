@@ -39,6 +39,8 @@ pub fn expr<'t, 's>(
     )
 }
 
+/// One statement or more with semicolons between them. What stands in one of them, or in a
+/// parenthesis, is read by this again, with fewer tokens left.
 #[cycle(phrases)]
 pub fn stmts<'t, 's>(
     alloc: Global,
