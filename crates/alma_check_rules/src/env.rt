@@ -7,9 +7,9 @@ ghost use Rattle.alma_check_rules.specs.Views.{scene_of, heading_view, headings_
 
 use alma_base::Range;
 use alma_ir::{Param, Root};
-use alma_names::{Access, Entry, Id, Scopes, Shape, ShapeId, Shapes};
+use alma_names::{Scopes, Shape, ShapeId, Shapes};
 use alma_scan::Token;
-use alma_tree::{Mode, Name};
+use alma_tree::Mode;
 use indexmap::IndexMap;
 
 /// A parameter: how it is passed, where not by value, and the shape of its type.

@@ -1,7 +1,7 @@
 // Where the parser stands, and its single steps.
 use crate::fault::Fault;
 use alma_scan::Token;
-use alma_tree::{Kind, Leaf, Name};
+use alma_tree::{Kind, Name};
 
 /// Where the parser stands: the tokens that are left, and the next numbers.
 #[derive(Clone, Copy)]

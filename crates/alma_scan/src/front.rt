@@ -1,8 +1,8 @@
 // The token at the front of bytes.
-ghost use Rattle.std.specs.Prelude.{◌≡◌, ◌++◌, nat_le, [], false, IfOk, IfErr, MatchOption};
+ghost use Rattle.std.specs.Prelude.{◌≡◌, nat_le, [], false};
 ghost use Rattle.alma_base.specs.Bytes.{is_letter};
 ghost use Rattle.alma_base.specs.Reading.{is_digit};
-ghost use Rattle.alma_scan.specs.Bytes.{Begins, AllIn, Stops, is_quote, value_of};
+ghost use Rattle.alma_scan.specs.Bytes.{Begins, AllIn, is_quote, value_of};
 ghost use Rattle.alma_scan.specs.Spellings.{greatest_number};
 ghost use Rattle.alma_scan.specs.Inner.Fronts.{IsGapEnd, IsFront, IsFrontOf, IsOtherFirst, IsSymbolAt};
 
