@@ -15,8 +15,8 @@ use alma_rules::Stop;
 use alma_tree::{Stmt, Stmts};
 use std::alloc::Global;
 
-/// A parenthesis: a single expression stands for its value, and any other body is a sequence of
-/// type BOOLEAN, which `inside` judges.
+/// A parenthesis: a single expression stands for itself, but for no place, and any other body is a
+/// sequence of type BOOLEAN, which `inside` judges.
 #[cycle(values)]
 pub fn check_parens<S>(
     alloc: Global,

@@ -88,7 +88,7 @@ fn not_procedure(env: &Env, wanted: Use, selected: bool, found: Found) -> bool
     }
 }
 
-/// A designator, behind its selectors: NotConst in a constant place where it is more than the name
+/// A designator, behind its selectors: NotConst in a constant place where it is not the bare name
 /// of a constant, then NotVariable and NotProcedure by its use. `selected`: it has selectors.
 pub fn pass_desig(
     env: &Env,
