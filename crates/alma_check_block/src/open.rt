@@ -94,7 +94,8 @@ fn declare_routines(
     Ok(())
 }
 
-/// Opens the block of a routine: the names that it declares are known, and its procedures are declared.
+/// Opens the block of a routine: the names that it declares are known, and its procedures are
+/// declared.
 pub fn open_block(
     alloc: Global,
     reader: &mut Reader,

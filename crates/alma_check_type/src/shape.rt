@@ -1,4 +1,5 @@
-// Shapes of types, put into the table. A shape that the table could not take, which no source shows, answers that memory ran out.
+// Shapes of types, put into the table. A shape that the table could not take, which no source
+// shows, answers that memory ran out.
 ghost use Rattle.std.specs.Prelude.{◌≡◌, ◌<◌, Some, IfOk, length, option_map, slice_get};
 ghost use Rattle.alma_names.specs.Shapes as shapes;
 ghost use Rattle.alma_rules.specs.Types as types;

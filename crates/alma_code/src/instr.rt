@@ -1,6 +1,7 @@
 // The instructions, in the order of their opcodes from 1 on.
 
-/// An instruction. Slots are those of the top frame; ranges, texts and routines are numbers in the tables of the code.
+/// An instruction. Slots are those of the top frame; ranges, texts and routines are numbers in the
+/// tables of the code.
 #[derive(Clone, Copy)]
 pub enum Instr {
     Const {

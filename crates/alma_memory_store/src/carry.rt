@@ -94,7 +94,8 @@ impl Carry {
         }
     }
 
-    // Sets the cells one after another, as long as there is memory, and notes what the carry had for them.
+    // Sets the cells one after another, as long as there is memory, and notes what the carry had
+    // for them.
     fn set_each(
         &mut self,
         changes: &[(SlotPlace, Cell)],
@@ -122,7 +123,8 @@ impl Carry {
         Ok(())
     }
 
-    /// Sets the cells one after another, or none of them, and answers what the carry had for each before.
+    /// Sets the cells one after another, or none of them, and answers what the carry had for each
+    /// before.
     pub fn set_all(
         &mut self,
         alloc: Global,

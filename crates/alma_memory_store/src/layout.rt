@@ -193,7 +193,8 @@ pub fn put_start<H: Head>(slots: &mut Vec<Slot>, head: &H) -> Result<(), NoMemor
     Ok(())
 }
 
-/// The slots of the frame that a call enters, in place of what stood there; `cells` is for the arguments.
+/// The slots of the frame that a call enters, in place of what stood there; `cells` is for the
+/// arguments.
 pub fn put_call<F: LiveFrames, H: Head>(
     slots: &mut Vec<Slot>,
     cells: &mut Vec<Cell>,

@@ -38,7 +38,8 @@ pub struct Region {
     pub slots: u32,
 }
 
-/// The live frames, and copies of them. A region that was left stands where it stood, as long as a copy needs it.
+/// The live frames, and copies of them. A region that was left stands where it stood, as long as a
+/// copy needs it.
 #[derive(Drop)]
 pub struct Store {
     slots: Rewind<Slot>,
@@ -347,7 +348,8 @@ impl Store {
         write_cell(&mut self.slots, at, cell)
     }
 
-    /// Pushes a frame with these slots. Its region stands above the live frames and above all that a copy needs.
+    /// Pushes a frame with these slots. Its region stands above the live frames and above all that
+    /// a copy needs.
     pub fn enter(
         &mut self,
         routine: u32,
@@ -388,7 +390,8 @@ impl Store {
         Ok(())
     }
 
-    /// Drops the top frame, and answers the address that it returns to. It notes nothing and takes no memory.
+    /// Drops the top frame, and answers the address that it returns to. It notes nothing and takes
+    /// no memory.
     pub fn leave(&mut self) -> u32
         requires { 2 ≤ length self.old.now }
         ensures now { self.new.now ≡ without_last self.old.now }
@@ -445,8 +448,8 @@ impl Store {
         self.top = self.regions.get(live - 1);
     }
 
-    /// The number slots that are live in the top copy and now and differ, with their cells of now. It looks only at what was
-    /// written since the copy was made.
+    /// The number slots that are live in the top copy and now and differ, with their cells of now.
+    /// It looks only at what was written since the copy was made.
     pub fn changes(&self, alloc: Global) -> Result<Vec<(SlotPlace, Cell)>, NoMemory>
         requires { 1 ≤ length self.now.held }
         ensures { IfOk result (λ found. SameGain (carry_of_entries found.items)
