@@ -3,7 +3,6 @@
 ghost use Rattle.std.specs.Prelude.{◌≡◌, ◌<◌, Some, IfOk, length, option_map, slice_get};
 ghost use Rattle.alma_names.specs.Shapes as shapes;
 ghost use Rattle.alma_rules.specs.Types as types;
-ghost use Rattle.alma_rules.specs.Scene as scenes;
 ghost use Rattle.alma_check_type.specs.Told.{formed_of};
 ghost use Rattle.alma_check_type.specs.Inner.Tables.{Shows, may_index, field_view, fields_view};
 

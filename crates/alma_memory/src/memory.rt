@@ -145,6 +145,7 @@ impl Memory {
         self.store.declared()
     }
 
+    /// What a slot of a live frame holds. Frame 0 is that of the module body.
     #[inline(always)]
     pub fn read(&self, frame: u32, slot: u32) -> Cell
         requires live { frame < length self.now.now }
@@ -172,6 +173,8 @@ impl Memory {
         self.store.top_kind(slot as usize)
     }
 
+    /// Writes into a slot of a live frame. What stood there is noted for the entries where it is
+    /// not yet, and only that may take memory.
     #[inline(always)]
     pub fn write(&mut self, frame: u32, slot: u32, cell: Cell) -> Result<(), NoMemory>
         requires live { frame < length self.old.now }

@@ -46,12 +46,15 @@ impl Carry {
         }
     }
 
+    /// How many slots have a cell in the carry.
     pub fn len(&self) -> usize
         ensures { result ≡ length self.now }
     {
         self.cells.len()
     }
 
+    /// The cell that the carry has for a slot. None where it has none, which is not an unknown
+    /// cell.
     pub fn get(&self, place: SlotPlace) -> Option<Cell>
         ensures { result ≡ carried_at place.frame place.slot self.now }
     {

@@ -92,7 +92,7 @@ fn higher(a: usize, b: usize) -> usize
     if a < b { b } else { a }
 }
 
-// Where a slot of a region stands.
+/// Where a slot of a region stands in the list of slots. `limit` only bounds the sum.
 #[inline(always)]
 pub fn place_of(region: Region, slot: usize, limit: usize) -> usize
     requires { region.base + slot < limit }
@@ -314,6 +314,8 @@ impl Store {
         self.number(place).is_some()
     }
 
+    /// Writes the cell of a slot of a live frame and leaves its kind. What stood there is noted for
+    /// the copies where it is not yet, and only that may take memory.
     #[inline(always)]
     pub fn write(&mut self, frame: usize, slot: usize, cell: Cell) -> Result<(), NoMemory>
         requires live { frame < length self.old.now }

@@ -58,6 +58,7 @@ fn latest_place(callee: u32) -> usize
 }
 
 impl SeenCalls {
+    /// Where no call was found to fit yet, with which the check of a code begins.
     pub fn none() -> SeenCalls
         ensures { (code : PlainCode) → AreFit code result }
     {
