@@ -522,7 +522,7 @@ impl<T: Copy> Rewind<T> {
         })
     }
 
-    /// How many items the list has now; the copies may have more or less.
+    /// How many items the list has now; a copy may have fewer, but not more.
     #[inline(always)]
     pub fn len(&self) -> usize
         ensures { result ≡ length self.now.now }

@@ -12,8 +12,8 @@ use crate::slots::{
 use crate::words::words_of;
 use alma_code::{Instr, Word};
 
-/// Rule 4 for one word: a slot word names a slot of its kind that is not the input position. Words
-/// for ranges, texts and addresses pass.
+/// Rule 4 for one word: a slot word names a slot of the kind that the form states, and not the
+/// input position. All other words pass.
 pub fn names_slot<R: CodeReader>(reader: &R, routine: u32, word: Word) -> bool
     requires routine { routine < length (R.code reader.now).routines }
     requires table { IsTable (R.code reader.now) }
@@ -129,8 +129,8 @@ pub fn rule_12<R: CodeReader>(reader: &R, routine: u32, instr: Instr) -> bool
     }
 }
 
-/// Whether it is one of the instructions that rule 11 lets stand last: the one behind it is not
-/// gone on to.
+/// Whether it is one of the five forms that rule 11 lets stand last in a routine, after which the
+/// machine does not simply go on to the next address.
 pub fn ends_routine(instr: Instr) -> bool
     ensures { result ≡ ends_routine_spec instr }
 {

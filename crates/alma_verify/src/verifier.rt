@@ -61,8 +61,8 @@ pub fn instr_fault<R: CodeReader>(
     None
 }
 
-/// The fault of the first instruction of a routine that breaks a rule, of those from `start` on
-/// that stand before `end`.
+/// The least broken rule, with its address, of the first instruction that breaks one. Only those
+/// from `start` on are looked at, up to `end` and without it.
 #[tactic(auto, using(crate::proofs::Starts::fault_steps))]
 pub fn instrs_fault<R: CodeReader>(
     reader: &R,
