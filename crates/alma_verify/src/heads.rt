@@ -50,7 +50,8 @@ pub fn rule_1<R: CodeReader>(reader: &R, routine: u32) -> bool
     start_of(reader, routine) < reader.code_end(routine) && is_main(reader, routine)
 }
 
-/// Where the last run of a routine ends, or 0 without a run. Rule 2 asks that all slots end there.
+/// Where the last run of a routine ends, or 0 without a run. Rule 2 asks that this is the number of
+/// slots.
 #[tactic(auto, using(crate::proofs::Starts::lasts))]
 pub fn end_of_runs<R: CodeReader>(reader: &R, routine: u32) -> u32
     requires routine { routine < length (R.code reader.now).routines }
@@ -89,7 +90,7 @@ pub fn name_routines<R: CodeReader>(reader: &R, routine: u32) -> bool
     true
 }
 
-/// Rule 2: the runs end at the number of slots, at most 8,388,608, those of links name routines,
+/// Rule 2: the runs end at the number of slots, at most 8,388,608; links name routines from 1 on;
 /// and the declared cells are at most as many as the slots, and at most 1,048,576.
 pub fn rule_2<R: CodeReader>(reader: &R, routine: u32) -> bool
     requires routine { routine < length (R.code reader.now).routines }

@@ -20,7 +20,7 @@ pub fn kind_of<R: CodeReader>(reader: &R, routine: u32, slot: u64) -> Option<Slo
     }
 }
 
-/// A slot word below the routine's slots that is not the input position.
+/// Whether a slot word is below the routine's slots and not the input position.
 pub fn is_slot<R: CodeReader>(reader: &R, routine: u32, slot: u32) -> bool
     requires { routine < length (R.code reader.now).routines }
     ensures { result ≡ is_slot_spec (R.code reader.now) routine slot }
