@@ -225,6 +225,6 @@ pub enum Word {
     Range(u32),
     Text(u32),
     Address(u32),
-    /// No word, or one that names none of these.
+    /// No word, one that names none of these, or one with a rule of its own, as those of a Call.
     Free,
 }
