@@ -14,7 +14,7 @@ use alma_memory_store::{LiveFrames, SlotPlace};
 use std::alloc::Global;
 use std::marker::Model;
 
-// There is always room to put a frame back.
+/// The live frames. There is always room to put a frame back.
 #[derive(Drop)]
 pub struct Frames {
     list: Vec<Frame>,
