@@ -113,7 +113,8 @@ fn take_back(journal: &mut Journal, change: Change) -> bool
     false
 }
 
-/// Goes back to where the last step began; false where none did, and then nothing is left to go back to.
+/// Goes back to where the last step began; false where none did, and then nothing is left to go
+/// back to.
 pub fn back(journal: &mut Journal) -> bool
     requires { IsTape journal.old }
     ensures tape { IsTape journal.new }

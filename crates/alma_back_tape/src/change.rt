@@ -22,7 +22,8 @@ pub struct Entry {
     pub carry: Carry,
 }
 
-/// What the carry of an entry gained: the cells that were set, and what it had for their places before.
+/// What the carry of an entry gained: the cells that were set, and what it had for their places
+/// before.
 #[derive(Drop)]
 pub struct Gain {
     pub at: usize,

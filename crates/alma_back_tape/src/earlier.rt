@@ -20,8 +20,8 @@ use alma_memory_store::{Carry, SlotPlace, changed_to};
 use std::alloc::Global;
 use std::marker::Model;
 
-/// The frames of now and those from before some notes: the first `shared` frames of now with the old `cells`,
-/// and the frames that stood above them.
+/// The frames of now and those from before some notes: the first `shared` frames of now with the
+/// old `cells`, and the frames that stood above them.
 #[derive(Drop)]
 pub struct Earlier<'a> {
     frames: &'a Frames,
@@ -213,8 +213,8 @@ impl<'a> Earlier<'a> {
         Ok(())
     }
 
-    /// The number slots that are live in both and differ, with their cells of now. It looks only at places that the notes name,
-    /// and at frames that stood above the shared ones.
+    /// The number slots that are live in both and differ, with their cells of now. It looks only at
+    /// places that the notes name, and at frames that stood above the shared ones.
     pub fn changes(&self, alloc: Global) -> Result<Vec<(SlotPlace, Cell)>, NoMemory>
         requires before { AreLive self.now.before }
         requires now { AreLive self.now.now }

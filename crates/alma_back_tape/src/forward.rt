@@ -260,7 +260,8 @@ fn pop_top(journal: &mut Journal, kind: ChoiceKind)
     }
 }
 
-/// Goes back to the top entry, and drops it, but a Forall stays as a Done. None where there is no entry.
+/// Goes back to the top entry, and drops it, but a Forall stays as a Done. None where there is no
+/// entry.
 pub fn fail(journal: &mut Journal) -> Option<Resumed>
     requires { IsTape journal.old }
     ensures tape { IsTape journal.new }

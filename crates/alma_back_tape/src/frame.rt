@@ -45,6 +45,8 @@ impl Model for Frame {
 }
 
 impl Frame {
+    /// A frame of these parts: `back` is the address that it returns to, `declared` counts for the
+    /// limit of live cells, and `kinds` and `cells` have an item for each slot.
     pub fn new(
         alloc: Global,
         routine: u32,
@@ -73,18 +75,21 @@ impl Frame {
         Ok(Frame { parts })
     }
 
+    /// The address that the frame returns to.
     pub fn back(&self) -> u32
         ensures { result ≡ self.now.back }
     {
         self.parts.back
     }
 
+    /// How many cells the frame counts for the limit of live cells.
     pub fn declared(&self) -> u32
         ensures { result ≡ self.now.declared }
     {
         self.parts.declared
     }
 
+    /// What a slot holds, of whatever kind it is.
     pub fn cell(&self, slot: usize) -> Cell
         requires { slot < length self.now.cells }
         ensures { result ≡ slice_index_or self.now.cells slot cell.Unknown }
@@ -100,6 +105,7 @@ impl Frame {
         self.parts.kinds[slot as usize]
     }
 
+    /// Puts a cell into a slot and leaves its kind. Nothing is noted here; that is for the caller.
     pub fn write(&mut self, slot: u32, cell: Cell)
         requires { slot < length self.old.cells }
         ensures { self.new ≡ frame_with self.old slot cell }
@@ -130,6 +136,7 @@ impl Frame {
         self.parts.cells.len() as u32
     }
 
+    /// Whether the slot is a number slot; one that the frame does not have is none.
     pub fn is_number(&self, slot: u32) -> bool
         ensures { result ≡ is_number (slice_get self.now.kinds slot) }
     {

@@ -14,7 +14,7 @@ use alma_memory_store::{LiveFrames, SlotPlace};
 use std::alloc::Global;
 use std::marker::Model;
 
-// There is always room to put a frame back.
+/// The live frames. There is always room to put a frame back.
 #[derive(Drop)]
 pub struct Frames {
     list: Vec<Frame>,
@@ -35,7 +35,7 @@ impl Model for Frames {
 }
 
 impl Frames {
-    // One frame, and room for all that may be live.
+    /// One frame, and room for all 10,000 that may be live.
     pub fn start(alloc: Global, frame: Frame) -> Result<Frames, NoMemory>
         requires { frame.declared ≤ cell_limit }
         ensures { IfOk result (λ frames. frames ≡ frame ∷ []) }
@@ -46,12 +46,15 @@ impl Frames {
         Ok(Frames { list, declared })
     }
 
+    /// How many frames are live, that of the module body too.
     pub fn len(&self) -> u32
         ensures { result ≡ length self.now }
     {
         self.list.len() as u32
     }
 
+    /// How many cells the live frames declare together; a frame is refused that would pass the
+    /// limit.
     pub fn declared(&self) -> u32
         ensures value { result ≡ live_cells self.now }
         ensures limit { result ≤ cell_limit }
@@ -59,6 +62,7 @@ impl Frames {
         self.declared
     }
 
+    /// The live frame with a number, counted from 0 at the bottom.
     pub fn at(&self, frame: u32) -> &Frame
         requires { frame < length self.now }
         ensures { result.now ≡ slice_index_or self.now frame no_frame }
@@ -74,6 +78,7 @@ impl Frames {
         &self.list[self.list.len() - 1]
     }
 
+    /// What a slot of a live frame holds, of whatever kind it is.
     pub fn cell(&self, place: SlotPlace) -> Cell
         requires live { place.frame < length self.now }
         requires slot_of { place.slot < length
@@ -83,6 +88,7 @@ impl Frames {
         self.at(place.frame).cell(place.slot as usize)
     }
 
+    /// Puts a cell into a slot of a live frame. Nothing is noted here; that is for the caller.
     pub fn write(&mut self, place: SlotPlace, cell: Cell)
         requires live { place.frame < length self.old }
         requires slot_of { place.slot < length
@@ -93,6 +99,7 @@ impl Frames {
         changed.write(place.slot, cell);
     }
 
+    /// Puts a frame on top. It takes no memory, for there is room since the start.
     pub fn push(&mut self, frame: Frame)
         requires depth { length self.old < frame_limit }
         requires cells { live_cells self.old + frame.declared ≤ cell_limit }
@@ -105,6 +112,7 @@ impl Frames {
         }
     }
 
+    /// Takes the top frame off and hands it over whole, with which a note can put it back.
     pub fn pop(&mut self) -> Frame
         requires { 1 ≤ length self.old }
         ensures rest { self.new ≡ without_last self.old }

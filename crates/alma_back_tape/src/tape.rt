@@ -68,7 +68,8 @@ impl Tape {
         Ok(())
     }
 
-    /// Goes back to where the last step began, at about the cost of what came since. It takes no memory. False where no step began.
+    /// Goes back to where the last step began, at about the cost of what came since. It takes no
+    /// memory. False where no step began.
     pub fn back(&mut self) -> bool
         ensures back { (if result
             then (record { now = self.new.now; held = self.new.held }) ∷ self.new.past else [])

@@ -46,7 +46,8 @@ fn read_decl(
     }
 }
 
-/// Reads the declarations of a block, and of its procedures the headings; the first of its routines has number `first`.
+/// Reads the declarations of a block, and of its procedures the headings; the first of its routines
+/// has number `first`.
 pub fn read_decls(
     alloc: Global,
     reader: &mut Reader,

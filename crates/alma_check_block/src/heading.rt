@@ -21,7 +21,8 @@ use alma_ir::Param;
 use alma_tree::{Block, Name, Params};
 use std::alloc::Global;
 
-/// What a heading leaves: its frame with the parameters, the heading, None where it is Bad, and the block round it.
+/// What a heading leaves: its frame with the parameters, the heading, None where it is Bad, and the
+/// block round it.
 #[derive(Drop)]
 pub struct Headed {
     pub frame: Frame,
@@ -174,8 +175,8 @@ fn at_depth(
     }
 }
 
-/// Opens the block of a procedure and reads its heading; the reader is left inside, with the parameters declared and what RETURN gives
-/// there.
+/// Opens the block of a procedure and reads its heading; the reader is left inside, with the
+/// parameters declared and what RETURN gives there.
 pub fn read_heading(
     alloc: Global,
     reader: &mut Reader,

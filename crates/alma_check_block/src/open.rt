@@ -25,7 +25,7 @@ pub fn next_number(number: u32) -> Result<u32, NoMemory>
     number.checked_add(1).ok_or(NoMemory)
 }
 
-/// The number of routines that a block declares, at any depth; None where it passes 2^32.
+/// The number of routines that a block declares, at any depth; None where 32 bits do not hold it.
 #[cycle(routines)]
 pub fn count_routines(block: &Block) -> Option<u32>
     ensures { IfSome result (λ n. n ≡ rules.block_routines (view.view_block block.now)) }
@@ -94,7 +94,8 @@ fn declare_routines(
     Ok(())
 }
 
-/// Opens the block of a routine: the names that it declares are known, and its procedures are declared.
+/// Opens the block of a routine: the names that it declares are known, and its procedures are
+/// declared.
 pub fn open_block(
     alloc: Global,
     reader: &mut Reader,

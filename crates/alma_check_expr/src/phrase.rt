@@ -25,7 +25,8 @@ fn pair(bound: Option<Bound>) -> Option<(ShapeId, i64)>
     }
 }
 
-/// The shape and the value of a constant that begins at a token, None where a name in use is Bad, or the first broken rule.
+/// The shape and the value of a constant that begins at a token, None where a name in use is Bad,
+/// or the first broken rule.
 pub fn const_value(
     alloc: Global,
     reader: &Reader,
@@ -46,8 +47,8 @@ pub fn const_value(
     }
 }
 
-/// The shape of a type expression that begins at a token, None where a name in use is Bad, or the first broken rule. The names of
-/// enumerations in it are declared in any case.
+/// The shape of a type expression that begins at a token, None where a name in use is Bad, or the
+/// first broken rule. The names of enumerations in it are declared in any case.
 pub fn shape_of(
     alloc: Global,
     reader: &mut Reader,

@@ -11,7 +11,8 @@ use alma_check_type::BrokenRule;
 use alma_ir::Routine;
 use std::alloc::Global;
 
-/// The least broken rule so far, the routines, whether one of them is Bad, and the number of the next one.
+/// The least broken rule so far, the routines, whether one of them is Bad, and the number of the
+/// next one.
 #[derive(Drop)]
 pub struct Checked {
     pub fault: Option<BrokenRule>,

@@ -142,7 +142,8 @@ fn broken_rule(alloc: Global, module: &Module, broken: BrokenRule) -> CheckError
     }
 }
 
-// The resolved program, or the least of the broken rules. Where no rule is broken no routine is Bad.
+// The resolved program, or the least of the broken rules. Where no rule is broken no routine is
+// Bad.
 fn finish(alloc: Global, module: &Module, whole: Whole) -> Result<Program, CheckError>
     requires fine { whole.checked.fault ≡ None → whole.checked.is_bad ≡ false }
     ensures { (source : List ℕ) (tokens : List Lexeme) → IsJudged source tokens
@@ -160,8 +161,8 @@ fn finish(alloc: Global, module: &Module, whole: Whole) -> Result<Program, Check
     })
 }
 
-/// Checks the tree of a source: gives the resolved program where no rule is broken, and else the least of the broken rules with the
-/// first token of its node.
+/// Checks the tree of a source: gives the resolved program where no rule is broken, and else the
+/// least of the broken rules with the first token of its node.
 pub fn check(
     alloc: Global,
     module: &Module,

@@ -12,8 +12,8 @@ use indexmap::IndexMap;
 use std::alloc::Global;
 use std::marker::Model;
 
-/// What the block round a new one has, to be given back at the end of that: the names that it declares, its routine, and what
-/// RETURN gives there.
+/// What the block round a new one has, to be given back at the end of that: the names that it
+/// declares, its routine, and what RETURN gives there.
 #[derive(Drop)]
 pub struct Around {
     declares: IndexMap<Vec<u8>, u32>,
@@ -118,7 +118,8 @@ impl<'e, 's> Reader<'e, 's> {
     }
 }
 
-/// Adds a name to those of a block with the token of its declaration, where none of them has its text.
+/// Adds a name to those of a block with the token of its declaration, where none of them has its
+/// text.
 pub fn with_name(
     map: &mut IndexMap<Vec<u8>, u32>,
     alloc: Global,

@@ -16,8 +16,8 @@ use alma_tree::{Name, Names};
 use indexmap::IndexMap;
 use std::alloc::Global;
 
-/// The fields of a record so far: the first rule that is broken in them, whether they are Bad, and the names with their shapes. Where
-/// the fields are Bad, the shapes say nothing.
+/// The fields of a record so far: the first rule that is broken in them, whether they are Bad, and
+/// the names with their shapes. Where the fields are Bad, the shapes say nothing.
 #[derive(Drop)]
 pub struct Fields {
     pub fault: Option<BrokenRule>,

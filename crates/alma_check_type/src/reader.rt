@@ -52,7 +52,8 @@ fn no_headings(alloc: Global, routines: u32) -> Result<Vec<Option<Heading>>, NoM
 }
 
 impl<'e, 's> Reader<'e, 's> {
-    /// Where nothing is declared but the names that stand outside each module, and no heading of so many routines is read yet.
+    /// Where nothing is declared but the names that stand outside each module, and no heading of so
+    /// many routines is read yet.
     pub fn new(
         alloc: Global,
         source: &'e [u8],
@@ -100,7 +101,8 @@ impl<'e, 's> Reader<'e, 's> {
         }
     }
 
-    /// Declares a name in the top block, where it is the first of its spelling in the text of the block.
+    /// Declares a name in the top block, where it is the first of its spelling in the text of the
+    /// block.
     pub fn declare(
         &mut self,
         alloc: Global,

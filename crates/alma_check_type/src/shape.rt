@@ -1,8 +1,8 @@
-// Shapes of types, put into the table. A shape that the table could not take, which no source shows, answers that memory ran out.
+// Shapes of types, put into the table. A shape that the table could not take, which no source
+// shows, answers that memory ran out.
 ghost use Rattle.std.specs.Prelude.{◌≡◌, ◌<◌, Some, IfOk, length, option_map, slice_get};
 ghost use Rattle.alma_names.specs.Shapes as shapes;
 ghost use Rattle.alma_rules.specs.Types as types;
-ghost use Rattle.alma_rules.specs.Scene as scenes;
 ghost use Rattle.alma_check_type.specs.Told.{formed_of};
 ghost use Rattle.alma_check_type.specs.Inner.Tables.{Shows, may_index, field_view, fields_view};
 

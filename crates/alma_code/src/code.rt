@@ -5,7 +5,8 @@ use crate::head::{CodeParam, Head, Run};
 use crate::instr::Instr;
 use alma_base::Range;
 
-/// A routine of a code. Its instructions begin where those of the routine before end, or at 0, and end before `code_end`.
+/// A routine of a code. Its instructions begin where those of the routine before end, or at 0, and
+/// end before `code_end`.
 #[derive(Drop)]
 pub struct RoutineHead {
     pub name: Vec<u8>,
@@ -61,14 +62,16 @@ pub struct CodeGlobal {
     pub cells: u32,
 }
 
-/// From this address on up to that of the next record, the line of the source; 0 where none is known.
+/// From this address on up to that of the next record, the line of the source; 0 where none is
+/// known.
 #[derive(Clone, Copy)]
 pub struct Line {
     pub at: u32,
     pub line: u32,
 }
 
-/// A code. Instructions name routines, ranges and texts by their places here, and one another by address.
+/// A code. Instructions name routines, ranges and texts by their places here, and one another by
+/// address.
 #[derive(Drop)]
 pub struct Code {
     /// Of the format: 1, or 2 for a code that may have links and lines.

@@ -1,6 +1,7 @@
 // The instructions, in the order of their opcodes from 1 on.
 
-/// An instruction. Slots are those of the top frame; ranges, texts and routines are numbers in the tables of the code.
+/// An instruction. Slots are those of the top frame; ranges, texts and routines are numbers in the
+/// tables of the code.
 #[derive(Clone, Copy)]
 pub enum Instr {
     Const {
@@ -224,6 +225,6 @@ pub enum Word {
     Range(u32),
     Text(u32),
     Address(u32),
-    /// No word, or one that names none of these.
+    /// No word, one that names none of these, or one with a rule of its own, as those of a Call.
     Free,
 }

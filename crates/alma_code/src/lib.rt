@@ -1,4 +1,5 @@
-//! The code of a program: cells and frames, heads of routines, instructions, and the copying code machine.
+//! The code of a program: cells and frames, heads of routines, instructions, and the copying code
+//! machine.
 #![tactic(auto)]
 
 mod cell;

@@ -27,7 +27,8 @@ pub enum Step {
     Done(End),
 }
 
-/// The first broken rule, from 1 to 12, and the routine (for 1 to 3) or the address where it is broken.
+/// The first broken rule, from 1 to 12, and the routine (for 1 to 3) or the address where it is
+/// broken.
 #[derive(Clone, Copy, Debug, PartialEq, Eq)]
 pub struct VerifyFault {
     pub rule: u8,

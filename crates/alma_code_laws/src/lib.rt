@@ -1,4 +1,5 @@
-//! Laws of the copying machine: it is never stuck on sound code, and a failing branch gives back all frames.
+//! Laws of the copying machine: it is never stuck on sound code, and a failing branch gives back
+//! all frames.
 #![tactic(auto)]
 
 mod laws;

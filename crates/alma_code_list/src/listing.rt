@@ -141,8 +141,8 @@ fn push_records(text: &mut Vec<u8>, lines: &[Line]) -> Result<(), NoMemory>
     Ok(())
 }
 
-/// The text that lists a code: its version, the variables of the module, each routine with its instructions, and the
-/// lines of addresses.
+/// The text that lists a code: its version, the variables of the module, each routine with its
+/// instructions, and the lines of addresses.
 pub fn list_text(alloc: Global, code: &Code) -> Result<Vec<u8>, NoMemory>
     ensures { IfOk result (λ listing. listing.items ≡ list_text (code_of code.now)) }
 {

@@ -44,6 +44,7 @@ impl LateCarry {
         }
     }
 
+    /// How many slots have a cell in the carry; 0 where it is not made.
     pub fn len(&self) -> usize
         ensures { result ≡ length self.now }
     {

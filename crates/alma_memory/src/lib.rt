@@ -1,4 +1,5 @@
-//! The memory of the machine: a stack of whole copies of the frames, kept as one store that goes back.
+//! The memory of the machine: a stack of whole copies of the frames, kept as one store that goes
+//! back.
 #![tactic(auto)]
 
 mod late_carry;

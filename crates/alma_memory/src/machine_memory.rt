@@ -11,7 +11,8 @@ use crate::memory::{EnterError, Memory, Resumed};
 use alma_base::NoMemory;
 use alma_code::{Cell, ChoiceKind, Head, SlotKind};
 
-/// A memory that a machine runs over: live frames, and a stack of choice entries with a whole copy of the frames for each.
+/// A memory that a machine runs over: live frames, and a stack of choice entries with a whole copy
+/// of the frames for each.
 pub trait MachineMemory: Drop {
     ghost picture: { Self → MachinePicture };
 
@@ -122,8 +123,8 @@ pub trait MachineMemory: Drop {
         ensures succeeds { 1 ≤ (picture self.old).choice_room → IsOk result }
         ensures trail_room { (picture self.old).trail_room ≤ (picture self.new).trail_room };
 
-    /// Goes back to the top entry: its copy becomes the frames, and the entry is dropped, but a Forall stays as a Done.
-    /// None where there is no entry.
+    /// Goes back to the top entry: its copy becomes the frames, and the entry is dropped, but a
+    /// Forall stays as a Done. None where there is no entry.
     fn fail(&mut self) -> Option<Resumed>
         ensures none { IsNone result ↔ ((picture self.old).held ≡ []) }
         ensures kind { IfSome result
@@ -154,7 +155,8 @@ pub trait MachineMemory: Drop {
         ensures past { (picture self.new).past ≡ (picture self.old).past }
         ensures choice_room { (picture self.old).choice_room ≤ (picture self.new).choice_room };
 
-    /// Drops the Body on top: each number slot that is live in its copy and now and differs enters the carry of the Forall at the height.
+    /// Drops the Body on top: each number slot that is live in its copy and now and differs enters
+    /// the carry of the Forall at the height.
     fn keep(&mut self, height: usize) -> Result<(), NoMemory>
         requires body { IsTop (picture self.old).held ChoiceKind.Body }
         requires forall { IsForallAt (picture self.old).held height }

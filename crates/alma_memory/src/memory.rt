@@ -16,8 +16,8 @@ use alma_memory_store::{Images, Store, put_start};
 use std::alloc::Global;
 use std::marker::Model;
 
-// Room for so many entries and notes is made at the start. It costs nothing before it is used, and lists
-// that grow from little leave holes behind them.
+// Room for so many entries and notes is made at the start. It costs nothing before it is used, and
+// lists that grow from little leave holes behind them.
 const FIRST_ENTRIES: usize = 32_768;
 
 const FIRST_NOTES: usize = 65_536;
@@ -71,7 +71,8 @@ impl Model for Memory {
 }
 
 impl Memory {
-    /// A memory with the frame of routine 0 alone, and no entry. It takes the memory that putting frames back needs.
+    /// A memory with the frame of routine 0 alone, and no entry. It takes the memory that putting
+    /// frames back needs.
     pub fn new<H: Head>(alloc: Global, head: &H) -> Result<Memory, NoMemory>
         requires head { IsHead (H.head head.now) }
         requires some { 1 ≤ (H.head head.now).slots }
@@ -144,6 +145,7 @@ impl Memory {
         self.store.declared()
     }
 
+    /// What a slot of a live frame holds. Frame 0 is that of the module body.
     #[inline(always)]
     pub fn read(&self, frame: u32, slot: u32) -> Cell
         requires live { frame < length self.now.now }
@@ -171,6 +173,8 @@ impl Memory {
         self.store.top_kind(slot as usize)
     }
 
+    /// Writes into a slot of a live frame. What stood there is noted for the entries where it is
+    /// not yet, and only that may take memory.
     #[inline(always)]
     pub fn write(&mut self, frame: u32, slot: u32, cell: Cell) -> Result<(), NoMemory>
         requires live { frame < length self.old.now }
@@ -287,8 +291,8 @@ impl Memory {
         push_entry(&mut self.entries, &mut self.store, kind, resume)
     }
 
-    /// Goes back to the top entry: its copy becomes the frames, and the entry is dropped, but a Forall stays as a Done.
-    /// None where there is no entry.
+    /// Goes back to the top entry: its copy becomes the frames, and the entry is dropped, but a
+    /// Forall stays as a Done. None where there is no entry.
     pub fn fail(&mut self) -> Option<Resumed>
         ensures none { IsNone result ↔ (self.old.held ≡ []) }
         ensures kind { IfSome result (λ resumed. resumed.kind ≡ (top_of self.old.held).kind) }
@@ -338,7 +342,8 @@ impl Memory {
         Some(self.entries[height - 1].kind)
     }
 
-    /// Lays the carry of the Forall at a height over the frames: each place of it that is a live number slot gets its cell.
+    /// Lays the carry of the Forall at a height over the frames: each place of it that is a live
+    /// number slot gets its cell.
     pub fn overlay(&mut self, height: usize) -> Result<(), NoMemory>
         requires { IsForallAt self.old.held height }
         ensures now { self.new.now ≡ (if is_ok result
@@ -358,8 +363,9 @@ impl Memory {
         Ok(())
     }
 
-    /// Drops the Body on top: each number slot that is live in its copy and now and differs enters the carry of the Forall at the height.
-    /// It costs as much as the changes since the Body was pushed.
+    /// Drops the Body on top: each number slot that is live in its copy and now and differs enters
+    /// the carry of the Forall at the height. It costs as much as the changes since the Body was
+    /// pushed.
     pub fn keep(&mut self, height: usize) -> Result<(), NoMemory>
         requires body { IsTop self.old.held ChoiceKind.Body }
         requires forall { IsForallAt self.old.held height }

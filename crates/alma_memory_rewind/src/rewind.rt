@@ -522,6 +522,7 @@ impl<T: Copy> Rewind<T> {
         })
     }
 
+    /// How many items the list has now; a copy may have fewer, but not more.
     #[inline(always)]
     pub fn len(&self) -> usize
         ensures { result ≡ length self.now.now }
@@ -544,6 +545,7 @@ impl<T: Copy> Rewind<T> {
         top_of(self.marks.as_slice())
     }
 
+    /// The item that stands now at a place, counted from 0.
     #[inline(always)]
     pub fn get(&self, at: usize) -> T
         requires { at < length self.now.now }
@@ -552,6 +554,7 @@ impl<T: Copy> Rewind<T> {
         self.items[at]
     }
 
+    /// The items as they stand now, lent and not copied.
     pub fn as_slice(&self) -> &[T]
         ensures { result.now ≡ self.now.now }
     {

@@ -46,12 +46,15 @@ impl Carry {
         }
     }
 
+    /// How many slots have a cell in the carry.
     pub fn len(&self) -> usize
         ensures { result ≡ length self.now }
     {
         self.cells.len()
     }
 
+    /// The cell that the carry has for a slot. None where it has none, which is not an unknown
+    /// cell.
     pub fn get(&self, place: SlotPlace) -> Option<Cell>
         ensures { result ≡ carried_at place.frame place.slot self.now }
     {
@@ -94,7 +97,8 @@ impl Carry {
         }
     }
 
-    // Sets the cells one after another, as long as there is memory, and notes what the carry had for them.
+    // Sets the cells one after another, as long as there is memory, and notes what the carry had
+    // for them.
     fn set_each(
         &mut self,
         changes: &[(SlotPlace, Cell)],
@@ -122,7 +126,8 @@ impl Carry {
         Ok(())
     }
 
-    /// Sets the cells one after another, or none of them, and answers what the carry had for each before.
+    /// Sets the cells one after another, or none of them, and answers what the carry had for each
+    /// before.
     pub fn set_all(
         &mut self,
         alloc: Global,

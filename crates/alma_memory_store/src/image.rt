@@ -20,10 +20,12 @@ use std::marker::Model;
 // Routines whose numbers leave the same rest share an image.
 const IMAGES: u32 = 8;
 
-// A frame of more slots is wide. All routines of wide frames share one image, so that one large copy is kept at most.
+// A frame of more slots is wide. All routines of wide frames share one image, so that one large
+// copy is kept at most.
 const WIDE: u32 = 256;
 
-/// The slots of a frame that was entered: the next frame of the same runs differs from it in its first slots alone.
+/// The slots of a frame that was entered: the next frame of the same runs differs from it in its
+/// first slots alone.
 #[derive(Drop)]
 pub struct Image {
     runs: Vec<Run>,
@@ -95,7 +97,8 @@ fn renew<H: Head>(runs: &mut Vec<Run>, slots: &mut Vec<Slot>, head: &H) -> Resul
     Ok(())
 }
 
-// The slots of a head, of which the first `count` are to be written: those of before, or else new ones.
+// The slots of a head, of which the first `count` are to be written: those of before, or else new
+// ones.
 #[inline(always)]
 fn prepare<H: Head>(
     runs: &mut Vec<Run>,

@@ -36,7 +36,8 @@ fn push_run(slots: &mut Vec<Slot>, end: usize, slot: Slot)
     }
 }
 
-// The slots of a head before anything is written, in place of what stood there.
+/// The slots of a head before anything is written, in place of what stood there: number slots are
+/// unknown, all others unset.
 pub fn put_blanks<H: Head>(slots: &mut Vec<Slot>, head: &H) -> Result<(), NoMemory>
     requires { RunsRise 0 (H.head head.now).runs (H.head head.now).slots }
     ensures slots { OnOk result (slots.new.items
@@ -53,7 +54,7 @@ pub fn put_blanks<H: Head>(slots: &mut Vec<Slot>, head: &H) -> Result<(), NoMemo
     Ok(())
 }
 
-// Writes cells into the first slots.
+/// Writes cells, those of the arguments at a call, into the first slots.
 #[inline(always)]
 pub fn put_cells(slots: &mut Vec<Slot>, cells: &[Cell])
     requires { length cells.now ≤ length slots.old.items }
@@ -153,7 +154,8 @@ fn push_copies<F: LiveFrames>(
     }
 }
 
-// What the arguments put into the first slots, in place of what stood there.
+/// What the arguments put into the first slots, in place of what stood there: two cells for Mix,
+/// copies of the cells at a place for Cells, and else the argument itself.
 #[inline(always)]
 pub fn push_args<F: LiveFrames, H: Head>(
     cells: &mut Vec<Cell>,
@@ -193,7 +195,8 @@ pub fn put_start<H: Head>(slots: &mut Vec<Slot>, head: &H) -> Result<(), NoMemor
     Ok(())
 }
 
-/// The slots of the frame that a call enters, in place of what stood there; `cells` is for the arguments.
+/// The slots of the frame that a call enters, in place of what stood there; `cells` is for the
+/// arguments.
 pub fn put_call<F: LiveFrames, H: Head>(
     slots: &mut Vec<Slot>,
     cells: &mut Vec<Cell>,

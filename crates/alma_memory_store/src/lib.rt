@@ -1,4 +1,5 @@
-//! The live frames as regions of one list of slots, with whole copies that cost nothing, and the carry of a FORALL.
+//! The live frames as regions of one list of slots, with whole copies that cost nothing, and the
+//! carry of a FORALL.
 #![tactic(auto)]
 
 mod carry;

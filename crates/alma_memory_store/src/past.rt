@@ -19,7 +19,8 @@ use std::alloc::Global;
 use std::collections::BTreeMap;
 use std::marker::Model;
 
-/// The frames of now and those of the top copy, known by what stood where something was written since.
+/// The frames of now and those of the top copy, known by what stood where something was written
+/// since.
 #[derive(Drop)]
 pub struct Past<'a> {
     slots: &'a Rewind<Slot>,
@@ -235,7 +236,8 @@ impl<'a> Past<'a> {
         Ok(())
     }
 
-    /// The number slots that are live in both and differ, with their cells of now. It looks only at what was written.
+    /// The number slots that are live in both and differ, with their cells of now. It looks only at
+    /// what was written.
     pub fn changes(&self, alloc: Global) -> Result<Vec<(SlotPlace, Cell)>, NoMemory>
         ensures { IfOk result (λ found. SameGain (carry_of_entries found.items)
             (diffs self.now.before self.now.now)) }

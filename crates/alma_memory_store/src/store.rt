@@ -38,7 +38,8 @@ pub struct Region {
     pub slots: u32,
 }
 
-/// The live frames, and copies of them. A region that was left stands where it stood, as long as a copy needs it.
+/// The live frames, and copies of them. A region that was left stands where it stood, as long as a
+/// copy needs it.
 #[derive(Drop)]
 pub struct Store {
     slots: Rewind<Slot>,
@@ -91,7 +92,7 @@ fn higher(a: usize, b: usize) -> usize
     if a < b { b } else { a }
 }
 
-// Where a slot of a region stands.
+/// Where a slot of a region stands in the list of slots. `limit` only bounds the sum.
 #[inline(always)]
 pub fn place_of(region: Region, slot: usize, limit: usize) -> usize
     requires { region.base + slot < limit }
@@ -313,6 +314,8 @@ impl Store {
         self.number(place).is_some()
     }
 
+    /// Writes the cell of a slot of a live frame and leaves its kind. What stood there is noted for
+    /// the copies where it is not yet, and only that may take memory.
     #[inline(always)]
     pub fn write(&mut self, frame: usize, slot: usize, cell: Cell) -> Result<(), NoMemory>
         requires live { frame < length self.old.now }
@@ -347,7 +350,8 @@ impl Store {
         write_cell(&mut self.slots, at, cell)
     }
 
-    /// Pushes a frame with these slots. Its region stands above the live frames and above all that a copy needs.
+    /// Pushes a frame with these slots. Its region stands above the live frames and above all that
+    /// a copy needs.
     pub fn enter(
         &mut self,
         routine: u32,
@@ -388,7 +392,8 @@ impl Store {
         Ok(())
     }
 
-    /// Drops the top frame, and answers the address that it returns to. It notes nothing and takes no memory.
+    /// Drops the top frame, and answers the address that it returns to. It notes nothing and takes
+    /// no memory.
     pub fn leave(&mut self) -> u32
         requires { 2 ≤ length self.old.now }
         ensures now { self.new.now ≡ without_last self.old.now }
@@ -445,8 +450,8 @@ impl Store {
         self.top = self.regions.get(live - 1);
     }
 
-    /// The number slots that are live in the top copy and now and differ, with their cells of now. It looks only at what was
-    /// written since the copy was made.
+    /// The number slots that are live in the top copy and now and differ, with their cells of now.
+    /// It looks only at what was written since the copy was made.
     pub fn changes(&self, alloc: Global) -> Result<Vec<(SlotPlace, Cell)>, NoMemory>
         requires { 1 ≤ length self.now.held }
         ensures { IfOk result (λ found. SameGain (carry_of_entries found.items)

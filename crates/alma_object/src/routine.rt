@@ -23,6 +23,7 @@ pub struct RoutineView<'b> {
 }
 
 impl<'b> RoutineView<'b> {
+    /// Its name: a letter or `_`, then letters, digits and `_`. It may be a reserved word.
     pub fn name(&self) -> &'b [u8]
         ensures { result.now ≡ self.now.name.now }
     {

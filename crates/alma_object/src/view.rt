@@ -9,7 +9,8 @@ mod readers;
 use alma_object_format::Header;
 pub use readers::GlobalView;
 
-/// A view of the bytes of an object. It lends them, and each reader takes what it gives straight from them.
+/// A view of the bytes of an object. It lends them, and each reader takes what it gives straight
+/// from them.
 #[derive(Clone, Copy)]
 pub struct ObjectView<'b> {
     bytes: &'b [u8],

@@ -36,6 +36,8 @@ impl Header {
         if self.version == 2 { 50 } else { 46 }
     }
 
+    /// The offset of the records of globals, of 12 bytes each; those of routines, of 28 bytes, end
+    /// there.
     pub fn globals_at(&self) -> usize
         ensures within { result < 2 ^ 38 }
         ensures offset { result ≡ globals_at self.now }
@@ -43,6 +45,7 @@ impl Header {
         self.routines_at() + 28 * self.routines as usize
     }
 
+    /// The offset of the records of params, of 8 bytes each: a kind and a number of cells.
     pub fn params_at(&self) -> usize
         ensures within { result < 2 ^ 39 }
         ensures offset { result ≡ params_at self.now }
@@ -50,6 +53,7 @@ impl Header {
         self.globals_at() + 12 * self.globals as usize
     }
 
+    /// The offset of the records of runs of slots, of 12 bytes each.
     pub fn runs_at(&self) -> usize
         ensures within { result < 2 ^ 40 }
         ensures offset { result ≡ runs_at self.now }
@@ -57,6 +61,7 @@ impl Header {
         self.params_at() + 8 * self.params as usize
     }
 
+    /// The offset of the records of ranges, of 16 bytes each: low and high.
     pub fn ranges_at(&self) -> usize
         ensures within { result < 2 ^ 41 }
         ensures offset { result ≡ ranges_at self.now }
@@ -64,6 +69,7 @@ impl Header {
         self.runs_at() + 12 * self.runs as usize
     }
 
+    /// The offset of the records of texts, of 4 bytes each; a record has the end of its text alone.
     pub fn texts_at(&self) -> usize
         ensures within { result < 2 ^ 42 }
         ensures offset { result ≡ texts_at self.now }
@@ -71,6 +77,7 @@ impl Header {
         self.ranges_at() + 16 * self.ranges as usize
     }
 
+    /// The offset of the bytes of all names, those of routines before those of globals.
     pub fn name_pool_at(&self) -> usize
         ensures within { result < 2 ^ 43 }
         ensures offset { result ≡ name_pool_at self.now }
@@ -78,6 +85,7 @@ impl Header {
         self.texts_at() + 4 * self.texts as usize
     }
 
+    /// The offset of the bytes of all texts, one behind another.
     pub fn text_pool_at(&self) -> usize
         ensures within { result < 2 ^ 44 }
         ensures offset { result ≡ text_pool_at self.now }
@@ -85,6 +93,7 @@ impl Header {
         self.name_pool_at() + self.name_bytes as usize
     }
 
+    /// The offset of the records of instructions, of 17 bytes each: the opcode and four words.
     pub fn instrs_at(&self) -> usize
         ensures within { result < 2 ^ 45 }
         ensures offset { result ≡ instrs_at self.now }
@@ -92,6 +101,7 @@ impl Header {
         self.text_pool_at() + self.text_bytes as usize
     }
 
+    /// The offset of the records of lines, of 8 bytes each. In version 1 the object ends there.
     pub fn lines_at(&self) -> usize
         ensures within { result < 2 ^ 46 }
         ensures offset { result ≡ lines_at self.now }
@@ -99,6 +109,8 @@ impl Header {
         self.instrs_at() + 17 * self.instrs as usize
     }
 
+    /// The offset behind the last section; an object that has bytes from there on is refused as
+    /// Trailing.
     pub fn end_at(&self) -> usize
         ensures within { result < 2 ^ 47 }
         ensures offset { result ≡ end_at self.now }

@@ -9,7 +9,8 @@ ghost use Rattle.alma_source.specs.declared.fault.SourceFault.{SourceFault};
 ghost use Rattle.alma_source.specs.Verdict.{Verdict, IsVerdict};
 ghost use Rattle.alma_tree.specs.declared.module.Module.{Module};
 
-/// What is refused is no program. What is refused for a fault of tokens or of syntax has no tokens that are a program of the grammar.
+/// What is refused is no program. What is refused for a fault of tokens or of syntax has no tokens
+/// that are a program of the grammar.
 pub fn a_refused_source_is_no_program()
     ensures apart { (source : List ℕ) (fault : SourceFault) (offset : ℕ) (p : Program)
         → IsRefused source fault offset → IsProgramOf source p → ⊥ }

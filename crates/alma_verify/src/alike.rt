@@ -9,7 +9,8 @@ use crate::seen::SeenCall;
 // How many turns a comparison has, of which each passes at least one run of one of the callers.
 const TURNS: u32 = 8;
 
-// How many slots more have one kind in both calls, behind so many; 0 where the next two differ, or one is not there.
+// How many slots more have one kind in both calls, behind so many; 0 where the next two differ, or
+// one is not there.
 fn alike_behind<R: CodeReader>(reader: &R, one: SeenCall, other: SeenCall, passed: u64) -> u64
     requires one { one.caller < length (R.code reader.now).routines }
     requires other { other.caller < length (R.code reader.now).routines }
@@ -35,7 +36,8 @@ fn alike_behind<R: CodeReader>(reader: &R, one: SeenCall, other: SeenCall, passe
     left.min(other_left)
 }
 
-/// Whether the first so many arguments of two calls are of the same kinds. It says no, too, where the turns do not suffice.
+/// Whether the first so many arguments of two calls are of the same kinds. It says no, too, where
+/// the turns do not suffice.
 #[tactic(auto, using(crate::proofs::SameKinds::joins))]
 pub fn are_alike<R: CodeReader>(reader: &R, one: SeenCall, other: SeenCall, count: u32) -> bool
     requires one { one.caller < length (R.code reader.now).routines }

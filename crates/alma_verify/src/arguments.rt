@@ -42,8 +42,8 @@ fn passed_first<H: Head>(caller: &H, first: u32) -> u32
     passed_runs(caller, u64::from(first))
 }
 
-/// Whether the slots of a caller from first on can be the arguments of a routine. The runs of the caller are gone through beside
-/// the parameters, so that each parameter takes the same time.
+/// Whether the slots of a caller from first on can be the arguments of a routine. The runs of the
+/// caller are gone through beside the parameters, so that each parameter takes the same time.
 #[tactic(auto, using(crate::proofs::SlotRuns::slots_none))]
 pub fn fit_all<H: Head, K: Head>(caller: &H, called: &K, routine: u32, first: u32) -> bool
     requires rise { HasRisingRuns (H.head caller.now) }

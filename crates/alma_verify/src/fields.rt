@@ -1,4 +1,5 @@
-// The numbers of a code in memory fit the fields of an object: its words are of 32 bits, its numbers of 64.
+// The numbers of a code in memory fit the fields of an object: its words are of 32 bits, its
+// numbers of 64.
 ghost use Rattle.std.specs.Prelude.{◌<◌, ◌^◌, All};
 ghost use Rattle.alma_code.specs.Plain.{code_of, global_of};
 ghost use Rattle.alma_object.specs.Fields.{FitsFields, FitsGlobal, FitsInstr, FitsRange, FitsRun};

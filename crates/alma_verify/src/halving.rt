@@ -41,7 +41,8 @@ fn latest(count: u32, slot: u64) -> u32
     }
 }
 
-/// How many runs end at or before a slot, by halving those that the counts of runs and of slots leave.
+/// How many runs end at or before a slot, by halving those that the counts of runs and of slots
+/// leave.
 pub fn passed_runs<H: Head>(head: &H, slot: u64) -> u32
     requires rise { HasRisingRuns (H.head head.now) }
     ensures { Passes (H.head head.now).runs slot result }
@@ -101,7 +102,8 @@ pub fn kind_behind<H: Head>(head: &H, passed: u32) -> Option<SlotKind>
     Some(head.run(passed).kind)
 }
 
-/// How many runs end at or before the slot first + k + 1, of which so many do at or before the slot first + k.
+/// How many runs end at or before the slot first + k + 1, of which so many do at or before the slot
+/// first + k.
 pub fn next_passed<H: Head>(head: &H, first: u32, k: u32, passed: u32) -> u32
     requires rise { HasRisingRuns (H.head head.now) }
     requires passes { Passes (H.head head.now).runs (first + k) passed }

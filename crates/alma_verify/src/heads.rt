@@ -12,6 +12,8 @@ use crate::slots::{are_cells, are_numbers, kind_of, start_of};
 use alma_base::{CELL_LIMIT, SLOT_LIMIT};
 use alma_code::{CodeParam, ParamKind, SlotKind};
 
+/// The part of rule 1 on globals: the cells of each are number slots of routine 0, from slot 1 on.
+/// A global of no cells may stand anywhere.
 #[tactic(auto, using(std::proofs::lemmas::List::Folds::list_all_more, std::proofs::lemmas::List::Folds::list_all_at))]
 pub fn are_globals<R: CodeReader>(reader: &R) -> bool
     requires table { IsTable (R.code reader.now) }
@@ -25,6 +27,8 @@ pub fn are_globals<R: CodeReader>(reader: &R) -> bool
     true
 }
 
+/// The part of rule 1 on routine 0: no parameters, no result, and its globals are number slots.
+/// Each other routine passes.
 #[tactic(auto, using(crate::proofs::Starts::mains))]
 pub fn is_main<R: CodeReader>(reader: &R, routine: u32) -> bool
     requires routine { routine < length (R.code reader.now).routines }
@@ -37,6 +41,7 @@ pub fn is_main<R: CodeReader>(reader: &R, routine: u32) -> bool
     reader.param_count(0) == 0 && !reader.has_result(0) && are_globals(reader)
 }
 
+/// Rule 1: the routine has an instruction, and routine 0 is as a module body must be.
 pub fn rule_1<R: CodeReader>(reader: &R, routine: u32) -> bool
     requires routine { routine < length (R.code reader.now).routines }
     requires table { IsTable (R.code reader.now) }
@@ -45,6 +50,8 @@ pub fn rule_1<R: CodeReader>(reader: &R, routine: u32) -> bool
     start_of(reader, routine) < reader.code_end(routine) && is_main(reader, routine)
 }
 
+/// Where the last run of a routine ends, or 0 without a run. Rule 2 asks that this is the number of
+/// slots.
 #[tactic(auto, using(crate::proofs::Starts::lasts))]
 pub fn end_of_runs<R: CodeReader>(reader: &R, routine: u32) -> u32
     requires routine { routine < length (R.code reader.now).routines }
@@ -68,6 +75,7 @@ pub fn names_routine<R: CodeReader>(reader: &R, kind: SlotKind) -> bool
     }
 }
 
+/// The part of rule 2 on links: each run of links names a routine from 1 to the last.
 pub fn name_routines<R: CodeReader>(reader: &R, routine: u32) -> bool
     requires routine { routine < length (R.code reader.now).routines }
     ensures { result ≡ list_all (λ run. names_routine_spec (R.code reader.now) run.kind)
@@ -82,6 +90,8 @@ pub fn name_routines<R: CodeReader>(reader: &R, routine: u32) -> bool
     true
 }
 
+/// Rule 2: the runs end at the number of slots, at most 8,388,608; links name routines from 1 on;
+/// and the declared cells are at most as many as the slots, and at most 1,048,576.
 pub fn rule_2<R: CodeReader>(reader: &R, routine: u32) -> bool
     requires routine { routine < length (R.code reader.now).routines }
     ensures { result ≡ rule_2_spec (R.code reader.now) routine }
@@ -95,6 +105,8 @@ pub fn rule_2<R: CodeReader>(reader: &R, routine: u32) -> bool
         && declared <= CELL_LIMIT
 }
 
+/// Whether the slots from `slot` on are those of the parameter: a place and a number slot for Mix,
+/// a number slot for each cell of Cells, and one slot for the other kinds.
 #[tactic(auto, using(crate::proofs::Starts::nexts))]
 pub fn holds_param<R: CodeReader>(reader: &R, routine: u32, param: CodeParam, slot: u64) -> bool
     requires routine { routine < length (R.code reader.now).routines }
@@ -115,6 +127,7 @@ pub fn holds_param<R: CodeReader>(reader: &R, routine: u32, param: CodeParam, sl
     }
 }
 
+/// The part of rule 3 on parameters: the first slots of the routine are theirs, in order.
 #[tactic(auto, using(crate::proofs::Starts::param_steps))]
 pub fn are_params<R: CodeReader>(reader: &R, routine: u32) -> bool
     requires routine { routine < length (R.code reader.now).routines }
@@ -134,6 +147,8 @@ pub fn are_params<R: CodeReader>(reader: &R, routine: u32) -> bool
     true
 }
 
+/// The part of rule 3 on the input position: slot 0 of routine 0 is a number slot. Each other
+/// routine passes.
 #[tactic(auto, using(crate::proofs::Starts::mains))]
 pub fn has_position<R: CodeReader>(reader: &R, routine: u32) -> bool
     requires routine { routine < length (R.code reader.now).routines }
@@ -143,6 +158,7 @@ pub fn has_position<R: CodeReader>(reader: &R, routine: u32) -> bool
     routine > 0 || is_number(kind_of(reader, 0, 0))
 }
 
+/// Rule 3: the first slots are those of the parameters, and slot 0 of routine 0 is a number slot.
 pub fn rule_3<R: CodeReader>(reader: &R, routine: u32) -> bool
     requires routine { routine < length (R.code reader.now).routines }
     requires table { IsTable (R.code reader.now) }

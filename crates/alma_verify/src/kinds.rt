@@ -5,24 +5,28 @@ ghost use Rattle.alma_code.specs.Rules.{place_length as place_length_spec, link_
 
 use alma_code::SlotKind;
 
+/// Whether there is a slot and it is a number slot, the only kind whose cells a place may name.
 pub fn is_number(kind: Option<SlotKind>) -> bool
     ensures { result ≡ is_number_spec kind }
 {
     matches!(kind, Some(SlotKind::Number))
 }
 
+/// Whether there is a slot and it is a mark slot, for a height of the stack of choice entries.
 pub fn is_mark(kind: Option<SlotKind>) -> bool
     ensures { result ≡ is_mark_spec kind }
 {
     matches!(kind, Some(SlotKind::Mark))
 }
 
+/// Whether there is a slot and it is a place slot, of any length.
 pub fn is_place(kind: Option<SlotKind>) -> bool
     ensures { result ≡ is_place_spec kind }
 {
     matches!(kind, Some(SlotKind::Place(_)))
 }
 
+/// Whether there is a slot and it is a place slot for places of exactly so many cells.
 pub fn is_place_of(length: u32, kind: Option<SlotKind>) -> bool
     ensures { result ≡ is_place_of_spec length kind }
 {
@@ -32,6 +36,7 @@ pub fn is_place_of(length: u32, kind: Option<SlotKind>) -> bool
     }
 }
 
+/// How many cells the places of a place slot have; 0 where the slot is no place slot or not there.
 pub fn place_length(kind: Option<SlotKind>) -> u32
     ensures { result ≡ place_length_spec kind }
 {
@@ -41,12 +46,14 @@ pub fn place_length(kind: Option<SlotKind>) -> u32
     }
 }
 
+/// Whether there is a slot and it is a link slot, of any routine.
 pub fn is_link(kind: Option<SlotKind>) -> bool
     ensures { result ≡ is_link_spec kind }
 {
     matches!(kind, Some(SlotKind::Link(_)))
 }
 
+/// Whether there is a slot and it is a link slot to frames of this very routine.
 pub fn is_link_of(routine: u32, kind: Option<SlotKind>) -> bool
     ensures { result ≡ is_link_of_spec routine kind }
 {
@@ -56,6 +63,8 @@ pub fn is_link_of(routine: u32, kind: Option<SlotKind>) -> bool
     }
 }
 
+/// The routine to whose frames a link slot leads; 0, which rule 2 refuses for a link, where it is
+/// none.
 pub fn link_routine(kind: Option<SlotKind>) -> u32
     ensures { result ≡ link_routine_spec kind }
 {

@@ -1,4 +1,5 @@
-//! The verifier: which objects hold sound code; and code in memory that is encoded and opened again.
+//! The verifier: which objects hold sound code; and code in memory that is encoded and opened
+//! again.
 #![tactic(auto)]
 
 mod alike;

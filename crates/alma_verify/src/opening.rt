@@ -14,7 +14,8 @@ use crate::verified::{Verified, verify};
 use alma_code::Code;
 use alma_object::{ObjectFault, ObjectView};
 
-/// The view of the bytes of an object, whose code is the one that they spell; or the first fault of bytes that are none.
+/// The view of the bytes of an object, whose code is the one that they spell; or the first fault of
+/// bytes that are none.
 pub fn open_object<'b>(bytes: &'b [u8]) -> Result<ObjectView<'b>, ObjectFault>
     ensures fault { TellsFault (object_fault bytes.now) result }
     ensures object { IfOk result (λ view. IsObject (code_of_view view) bytes.now) }

@@ -7,8 +7,9 @@ ghost use Rattle.alma_verify.specs.Runs.{no_global, Covers};
 use alma_base::Range;
 use alma_code::{CodeParam, Instr, Run};
 
-/// What the verifier reads of a code. Each reader but the last two of a routine takes the same time, whatever the size of the
-/// code; those halve the runs of a routine once, and the second goes through the parameters.
+/// What the verifier reads of a code. Each reader but the last two of a routine takes the same
+/// time, whatever the size of the code; those halve the runs of a routine once, and the second goes
+/// through the parameters.
 pub trait CodeReader {
     ghost code: { Self → PlainCode };
 

@@ -12,6 +12,8 @@ use crate::slots::{
 use crate::words::words_of;
 use alma_code::{Instr, Word};
 
+/// Rule 4 for one word: a slot word names a slot of the kind that the form states, and not the
+/// input position. All other words pass.
 pub fn names_slot<R: CodeReader>(reader: &R, routine: u32, word: Word) -> bool
     requires routine { routine < length (R.code reader.now).routines }
     requires table { IsTable (R.code reader.now) }
@@ -35,6 +37,8 @@ pub fn names_slot<R: CodeReader>(reader: &R, routine: u32, word: Word) -> bool
     }
 }
 
+/// Rule 4: each slot word is below the routine's slots, of the kind that the form states, and not
+/// slot 0 of routine 0.
 pub fn rule_4<R: CodeReader>(reader: &R, routine: u32, instr: Instr) -> bool
     requires routine { routine < length (R.code reader.now).routines }
     requires table { IsTable (R.code reader.now) }
@@ -47,6 +51,8 @@ pub fn rule_4<R: CodeReader>(reader: &R, routine: u32, instr: Instr) -> bool
         && names_slot(reader, routine, d)
 }
 
+/// Rule 7: an instruction on single cells has places of length 1; CopyCells and SameCells have two
+/// places of equal length.
 #[tactic(auto, unfolding(alma_code::specs::Rules::rule_7))]
 pub fn rule_7<R: CodeReader>(reader: &R, routine: u32, instr: Instr) -> bool
     requires routine { routine < length (R.code reader.now).routines }
@@ -80,6 +86,7 @@ pub fn rule_7<R: CodeReader>(reader: &R, routine: u32, instr: Instr) -> bool
     }
 }
 
+/// Rule 8 for one word: a range word or a text word is below its count. All other words pass.
 pub fn names_entry<R: CodeReader>(reader: &R, word: Word) -> bool
     ensures { result ≡ names_entry_spec (R.code reader.now) word }
 {
@@ -96,6 +103,7 @@ pub fn names_entry<R: CodeReader>(reader: &R, word: Word) -> bool
     }
 }
 
+/// Rule 8: each range word and each text word is below its count.
 pub fn rule_8<R: CodeReader>(reader: &R, instr: Instr) -> bool
     ensures { result ≡ rule_8_spec (R.code reader.now) instr }
 {
@@ -106,6 +114,8 @@ pub fn rule_8<R: CodeReader>(reader: &R, instr: Instr) -> bool
         && names_entry(reader, d)
 }
 
+/// Rule 12: ReturnValue stands only in a routine with a result, Return only in one without, and the
+/// word of Fault is 5 (NoCase) or 6 (NoReturn).
 #[tactic(auto, unfolding(alma_code::specs::Rules::rule_12))]
 pub fn rule_12<R: CodeReader>(reader: &R, routine: u32, instr: Instr) -> bool
     requires { routine < length (R.code reader.now).routines }
@@ -119,6 +129,8 @@ pub fn rule_12<R: CodeReader>(reader: &R, routine: u32, instr: Instr) -> bool
     }
 }
 
+/// Whether it is one of the five forms that rule 11 lets stand last in a routine, after which the
+/// machine does not simply go on to the next address.
 pub fn ends_routine(instr: Instr) -> bool
     ensures { result ≡ ends_routine_spec instr }
 {
@@ -132,6 +144,8 @@ pub fn ends_routine(instr: Instr) -> bool
     )
 }
 
+/// Rule 5: Local, Global, Same and Field make places of cells that are there, and Own, Chain, Outer
+/// and OuterSame agree with the routine that a link leads to.
 #[tactic(auto, unfolding(alma_code::specs::Rules::rule_5))]
 pub fn rule_5<R: CodeReader>(reader: &R, routine: u32, instr: Instr) -> bool
     requires routine { routine < length (R.code reader.now).routines }
@@ -169,6 +183,7 @@ pub fn rule_5<R: CodeReader>(reader: &R, routine: u32, instr: Instr) -> bool
     }
 }
 
+/// Whether the address is that of an instruction of this routine.
 pub fn is_address<R: CodeReader>(reader: &R, routine: u32, at: u32) -> bool
     requires { routine < length (R.code reader.now).routines }
     ensures { result ≡ is_address_spec (R.code reader.now) routine at }
@@ -176,6 +191,7 @@ pub fn is_address<R: CodeReader>(reader: &R, routine: u32, at: u32) -> bool
     start_of(reader, routine) <= at && at < reader.code_end(routine)
 }
 
+/// Rule 9 for one word: an address word is an address of this routine. All other words pass.
 pub fn names_address<R: CodeReader>(reader: &R, routine: u32, word: Word) -> bool
     requires { routine < length (R.code reader.now).routines }
     ensures { result ≡ names_address_spec (R.code reader.now) routine word }
@@ -193,6 +209,7 @@ pub fn names_address<R: CodeReader>(reader: &R, routine: u32, word: Word) -> boo
     }
 }
 
+/// Rule 9: each address word is an address of the same routine.
 pub fn rule_9<R: CodeReader>(reader: &R, routine: u32, instr: Instr) -> bool
     requires { routine < length (R.code reader.now).routines }
     ensures { result ≡ rule_9_spec (R.code reader.now) routine instr }
@@ -204,6 +221,8 @@ pub fn rule_9<R: CodeReader>(reader: &R, routine: u32, instr: Instr) -> bool
         && names_address(reader, routine, d)
 }
 
+/// Rule 11: the instruction is not the last of its routine, or is Jump, Fail, Return, ReturnValue
+/// or Fault.
 #[tactic(auto, unfolding(alma_code::specs::Rules::rule_11))]
 pub fn rule_11<R: CodeReader>(reader: &R, routine: u32, at: u32, instr: Instr) -> bool
     requires routine { routine < length (R.code reader.now).routines }
@@ -213,6 +232,8 @@ pub fn rule_11<R: CodeReader>(reader: &R, routine: u32, at: u32, instr: Instr) -
     u64::from(at) + 1 < u64::from(reader.code_end(routine)) || ends_routine(instr)
 }
 
+/// The part of rule 10 on the result of a call: where the callee `gives` one, `to` is a number slot
+/// that is not the input position; else `to` is 0.
 pub fn has_place_for_result<R: CodeReader>(reader: &R, routine: u32, gives: bool, to: u32) -> bool
     requires routine { routine < length (R.code reader.now).routines }
     requires table { IsTable (R.code reader.now) }
@@ -225,6 +246,8 @@ pub fn has_place_for_result<R: CodeReader>(reader: &R, routine: u32, gives: bool
     }
 }
 
+/// Rule 10: Call names a routine from 1 on, slots that match its parameters and a slot for its
+/// result, and is not the last instruction. A call whose arguments fit is remembered in `seen`.
 #[tactic(auto, unfolding(alma_code::specs::Rules::rule_10), using(crate::proofs::RuleStarts::firsts))]
 pub fn rule_10<R: CodeReader>(
     reader: &R,
@@ -270,6 +293,8 @@ pub fn has_room<R: CodeReader>(reader: &R, range: u32, each: u32, all: u32) -> b
     }
 }
 
+/// Rule 6: the count of numbers in the range of Index, times the length of its part, is at most the
+/// length of the whole.
 #[tactic(auto, unfolding(alma_code::specs::Rules::rule_6))]
 pub fn rule_6<R: CodeReader>(reader: &R, routine: u32, instr: Instr) -> bool
     requires routine { routine < length (R.code reader.now).routines }

@@ -8,7 +8,8 @@ use crate::alike::are_alike;
 use crate::arguments::is_free;
 use crate::reader::CodeReader;
 
-/// A call by its caller, its callee and its first argument slot. Callee 0, which no call may name, stands for none.
+/// A call by its caller, its callee and its first argument slot. Callee 0, which no call may name,
+/// stands for none.
 #[derive(Clone, Copy)]
 pub struct SeenCall {
     pub caller: u32,
@@ -25,9 +26,10 @@ const NO_CALL: SeenCall = SeenCall {
     first: 0,
 };
 
-/// Calls whose arguments were found to fit. In `calls` each has the place that its callee and first slot give, where the last one
-/// stays, so a call that stands in a code many times is looked at once. In `latest` its callee alone gives the place, and other calls
-/// of that callee are compared with it. No memory is asked for.
+/// Calls whose arguments were found to fit. In `calls` each has the place that its callee and first
+/// slot give, where the last one stays, so a call that stands in a code many times is looked at
+/// once. In `latest` its callee alone gives the place, and other calls of that callee are compared
+/// with it. No memory is asked for.
 #[derive(Drop)]
 pub struct SeenCalls {
     calls: [SeenCall; 256],
@@ -56,6 +58,7 @@ fn latest_place(callee: u32) -> usize
 }
 
 impl SeenCalls {
+    /// Where no call was found to fit yet, with which the check of a code begins.
     pub fn none() -> SeenCalls
         ensures { (code : PlainCode) → AreFit code result }
     {
@@ -77,7 +80,8 @@ impl SeenCalls {
         )
     }
 
-    // Whether the arguments are more than few, and of the same kinds as those of the last call of the callee that fit.
+    // Whether the arguments are more than few, and of the same kinds as those of the last call of
+    // the callee that fit.
     fn fits_like_latest<R: CodeReader>(&self, reader: &R, call: SeenCall) -> bool
         requires caller { call.caller < length (R.code reader.now).routines }
         requires callee { call.callee < length (R.code reader.now).routines }

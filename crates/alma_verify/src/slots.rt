@@ -20,7 +20,7 @@ pub fn kind_of<R: CodeReader>(reader: &R, routine: u32, slot: u64) -> Option<Slo
     }
 }
 
-/// A slot word below the routine's slots that is not the input position.
+/// Whether a slot word is below the routine's slots and not the input position.
 pub fn is_slot<R: CodeReader>(reader: &R, routine: u32, slot: u32) -> bool
     requires { routine < length (R.code reader.now).routines }
     ensures { result ≡ is_slot_spec (R.code reader.now) routine slot }
@@ -28,6 +28,7 @@ pub fn is_slot<R: CodeReader>(reader: &R, routine: u32, slot: u32) -> bool
     slot < reader.slots(routine) && (routine > 0 || slot > 0)
 }
 
+/// How many cells the places of a slot have; 0 where it is no place slot.
 pub fn length_of<R: CodeReader>(reader: &R, routine: u32, slot: u32) -> u32
     requires routine { routine < length (R.code reader.now).routines }
     requires table { IsTable (R.code reader.now) }
@@ -57,6 +58,7 @@ pub fn kind_of_any<R: CodeReader>(reader: &R, routine: u32, slot: u32) -> Option
     }
 }
 
+/// The address of the routine's first instruction: where the code of the routine before ends, or 0.
 #[tactic(auto, using(crate::proofs::SlotStarts::starts))]
 pub fn start_of<R: CodeReader>(reader: &R, routine: u32) -> u32
     requires { routine < length (R.code reader.now).routines }

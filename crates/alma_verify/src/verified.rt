@@ -14,7 +14,8 @@ pub struct Verified<'b> {
     ghost clean: { code_fault_of (code_of_view view) ≡ None },
 }
 
-/// The view, exactly where its code is sound, and else the first rule that it breaks. It takes no memory.
+/// The view, exactly where its code is sound, and else the first rule that it breaks. It takes no
+/// memory.
 pub fn verify<'b>(view: ObjectView<'b>) -> Result<Verified<'b>, VerifyFault>
     ensures fault { MatchResult result (λ verified. code_fault_of (code_of_view view.entry) ≡ None)
         (λ fault. code_fault_of (code_of_view view.entry) ≡ Some fault) }

@@ -61,6 +61,8 @@ pub fn instr_fault<R: CodeReader>(
     None
 }
 
+/// The least broken rule, with its address, of the first instruction that breaks one. Only those
+/// from `start` on are looked at, up to `end` and without it.
 #[tactic(auto, using(crate::proofs::Starts::fault_steps))]
 pub fn instrs_fault<R: CodeReader>(
     reader: &R,
@@ -85,6 +87,8 @@ pub fn instrs_fault<R: CodeReader>(
     None
 }
 
+/// The first fault of a routine: rules 1 to 3 of its head, reported with its number, and then its
+/// instructions in order, reported with the address.
 #[tactic(auto, unfolding(alma_code::specs::Rules::routine_fault))]
 pub fn routine_fault<R: CodeReader>(
     reader: &R,

@@ -31,6 +31,8 @@ fn numbers(a: u32, b: u32, c: u32) -> [Word; 4]
     three(Word::Number(a), Word::Number(b), Word::Number(c))
 }
 
+/// The words of an instruction with what each names, for rules 4, 8 and 9. Free stands for a word
+/// of which they ask nothing, as for all those of Call.
 #[tactic(auto, unfolding(alma_code::specs::Words::words))]
 pub fn words_of(instr: Instr) -> [Word; 4]
     ensures { result ≡ words instr }

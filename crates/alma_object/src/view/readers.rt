@@ -58,12 +58,15 @@ impl<'b> ObjectView<'b> {
         ensures { IsObject (code_of_view self.now) self.now.bytes.now }
     {}
 
+    /// The version of the object, 1 or 2. Links, lines and the forms from 49 on are of version 2
+    /// alone.
     pub fn version(&self) -> u16
         ensures { result ≡ (code_of_view self.now).version }
     {
         self.header.version
     }
 
+    /// How many routines there are, at least 1: routine 0 is the module body.
     #[tactic(auto, using(crate::proofs::Items::item_steps))]
     pub fn routine_count(&self) -> u32
         ensures { result ≡ length (code_of_view self.now).routines }
@@ -71,6 +74,7 @@ impl<'b> ObjectView<'b> {
         self.header.routines
     }
 
+    /// How many instructions all routines have together. Addresses count from 0 and are below it.
     #[tactic(auto, using(crate::proofs::Items::item_steps))]
     pub fn code_count(&self) -> u32
         ensures { result ≡ length (code_of_view self.now).instrs }
@@ -78,6 +82,7 @@ impl<'b> ObjectView<'b> {
         self.header.instrs
     }
 
+    /// How many globals there are, each a name for cells of the frame of routine 0.
     #[tactic(auto, using(crate::proofs::Items::item_steps))]
     pub fn global_count(&self) -> u32
         ensures { result ≡ length (code_of_view self.now).globals }
@@ -105,6 +110,8 @@ impl<'b> ObjectView<'b> {
         InstrRecord::new(self.bytes, self.instrs_at + 17 * at as usize)
     }
 
+    /// The range that a range word names, low and high in it, straight from its record; None past
+    /// the last.
     #[inline(always)]
     #[tactic(auto, using(crate::proofs::Items::item_steps))]
     pub fn range(&self, i: u32) -> Option<Range>
