@@ -1,4 +1,5 @@
-//! Tables of the lowering: texts and ranges, heads of routines, and what is gathered before code is made.
+//! Tables of the lowering: texts and ranges, heads of routines, and what is gathered before code is
+//! made.
 #![tactic(auto)]
 
 mod entry;

@@ -37,7 +37,8 @@ const COUNT: [Instr; 13] = [
     Instr::Return,
 ];
 
-// Copies a pair onto one that overlaps it, prints two characters, a text and a line, and then counts to 2, in 24 steps.
+// Copies a pair onto one that overlaps it, prints two characters, a text and a line, and then
+// counts to 2, in 24 steps.
 const PARTS: [Instr; 21] = [
     Instr::Local { to: 10, first: 6 },
     Instr::Const { to: 1, value: 2 },
@@ -283,7 +284,8 @@ fn run_on(machine: &mut Machine<'_, '_>, budget: u64, out: &mut MemSink) -> RunE
     machine.run(budget, out)
 }
 
-// How a run ends, the machine's steps, choices and fails, whether it printed what was awaited, and whether it runs on.
+// How a run ends, the machine's steps, choices and fails, whether it printed what was awaited, and
+// whether it runs on.
 type Shown = (RunEnd, [u64; 3], bool, bool);
 
 // What a run of 99 steps at most shows.
@@ -337,7 +339,8 @@ fn parts_are_copied_and_a_loop_counts(rt: HostRuntime) -> Result<(), Fail> {
     Ok(())
 }
 
-// Runs so many steps, and answers how a run of the rest of 31 ends; none where the first did not run out of steps there.
+// Runs so many steps, and answers how a run of the rest of 31 ends; none where the first did not
+// run out of steps there.
 fn run_rest(machine: &mut Machine<'_, '_>, out: &mut MemSink, budget: u64) -> Option<RunEnd>
     requires running { IsTrue machine.old.running }
     requires few { machine.old.state.steps + budget < 2 ^ 63 }
@@ -440,7 +443,8 @@ fn other_print(machine: &mut Machine<'_, '_>) -> Option<u64> {
     None
 }
 
-// The first of 31 steps that prints other than it should, whether the machine runs on, its choices and fails.
+// The first of 31 steps that prints other than it should, whether the machine runs on, its choices
+// and fails.
 type Steps = (Option<u64>, bool, u64, u64);
 
 // What 31 steps show.
@@ -465,7 +469,8 @@ fn the_print_of_the_last_step_is_there(rt: HostRuntime) -> Result<(), Fail> {
     Ok(())
 }
 
-// Binds the cell of slot 1 to 1, prints it and fails; and then binds it to 2, prints it and ends, in 14 steps.
+// Binds the cell of slot 1 to 1, prints it and fails; and then binds it to 2, prints it and ends,
+// in 14 steps.
 const TWO_WAYS: [Instr; 13] = [
     Instr::Local { to: 5, first: 1 },
     Instr::Choose { resume: 7 },
