@@ -262,7 +262,8 @@ fn small(alloc: Global, instrs: &[Instr]) -> Result<Code, NoMemory>
     })
 }
 
-// Its object.
+/// The bytes of an object with one routine, a module body of these instructions with 13 slots of
+/// the kinds `KINDS`; with the range from 1 to 2 and the text `ok`, without globals and lines.
 pub fn object(alloc: Global, instrs: &[Instr]) -> Result<Vec<u8>, NoMemory>
     requires { length instrs.now ≤ 99 }
 {
@@ -270,7 +271,8 @@ pub fn object(alloc: Global, instrs: &[Instr]) -> Result<Vec<u8>, NoMemory>
     encode(alloc, &code)
 }
 
-// The verified view of an object; none where it is refused.
+/// The verified view of the bytes of an object; none where they are no object, or its code is not
+/// sound.
 pub fn opened(bytes: &[u8]) -> Option<Verified<'_>> {
     let view = ObjectView::new(bytes).ok()?;
     verify(view).ok()
@@ -415,7 +417,8 @@ fn print_of(step: u64) -> &'static [u8] {
     }
 }
 
-// The next step of a machine that made less than 99; none where it does not run.
+/// Makes the next step of a machine and answers it; none where the machine does not run, or has
+/// made 99 steps.
 pub fn next_step(machine: &mut Machine<'_, '_>) -> Result<Option<Step>, NoMemory> {
     if !machine.is_running() || machine.steps() >= 99 {
         return Ok(None);
