@@ -418,7 +418,7 @@ fn print_of(step: u64) -> &'static [u8] {
 }
 
 /// Makes the next step of a machine and answers it; none where the machine does not run, or has
-/// made 99 steps.
+/// made 99 steps or more.
 pub fn next_step(machine: &mut Machine<'_, '_>) -> Result<Option<Step>, NoMemory> {
     if !machine.is_running() || machine.steps() >= 99 {
         return Ok(None);
