@@ -1,4 +1,4 @@
-// Equations of cells, one after another, and copies of cells.
+// Equations of two cells, and of the cells of two places, one after another.
 ghost use Rattle.std.specs.Prelude.{◌≡◌, ◌+◌, ◌<◌, ◌≤◌, Some, None, IfOk, OnErr, IsOk};
 ghost use Rattle.alma_code.specs.Machine.{place, equation_of_contents, equation, equations, quiet_step};
 ghost use Rattle.alma_machine_acts.specs.Acts.{Acts, Makes};
