@@ -29,15 +29,17 @@ fn tell<E: Sink>(err: &mut E, file: &str, end: AllEnd) -> Status
     }
 }
 
-/// All that the program does: it reads the source in the named file, and prints a line of the values of its variables for
-/// each alternative of its module body, in their order, with the prints of the program between. `words` are those behind
-/// the program's name: the file, and `--steps=N`, where there are to be at most so many steps.
+/// All that the program does: it reads the source in the named file, and prints a line of the
+/// values of its variables for each alternative of its module body, in their order, with the prints
+/// of the program between. `words` are those behind the program's name: the file, and `--steps=N`,
+/// where there are to be at most so many steps.
 ///
-/// The status is 0 where all alternatives were listed, 2 for a bad word, 3 for a source that is refused, 4 for a fault of the
-/// program behind those that were listed, 5 where the steps ran out, 6 for a read fault, 7 for a write fault, 8 for want of
-/// memory, 10 for a source of more than 1,048,576 bytes or an input of more than 16,777,216, 11 where the program that
-/// lists the alternatives is too large, and 13 for a RETURN in the body of the module. The input is read only where the
-/// program has a READ.
+/// The status is 0 where all alternatives were listed, 2 for a bad word, 3 for a source that is
+/// refused, 4 for a fault of the program behind those that were listed, 5 where the steps ran out,
+/// 6 for a read fault, 7 for a write fault, 8 for want of memory, 10 for a source of more than
+/// 1,048,576 bytes or an input of more than 16,777,216, 11 where the program that lists the
+/// alternatives is too large, and 13 for a RETURN in the body of the module. The input is read only
+/// where the program has a READ.
 pub fn all<F: Files, I: Source, O: Sink, E: Sink>(
     alloc: Global,
     words: &[String],

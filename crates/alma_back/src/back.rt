@@ -30,8 +30,8 @@ use std::marker::Model;
 /// A number of printed bytes behind which those of any one step can still be counted.
 const GREATEST_PRINTED: u64 = u64::MAX / 2;
 
-/// What a step back gives again that the memory does not hold: the registers before a step, and how many bytes were printed
-/// before it.
+/// What a step back gives again that the memory does not hold: the registers before a step, and how
+/// many bytes were printed before it.
 #[derive(Clone, Copy)]
 struct Old {
     at: u32,
@@ -264,7 +264,8 @@ impl<'b, 'i> Back<'b, 'i> {
         self.registers.memory.read(0, slot)
     }
 
-    /// Appends the value of the first global of a name, as the tracer shows it, and - where there is none.
+    /// Appends the value of the first global of a name, as the tracer shows it, and - where there
+    /// is none.
     pub fn push_value(&self, line: &mut Vec<u8>, name: &[u8]) -> Result<(), NoMemory>
         ensures { OnOk result (line.new.items ≡ line.old.items
             ++ value_of_name (state_of self.now).now self.now.code.globals name.now) }

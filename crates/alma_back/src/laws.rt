@@ -1,4 +1,5 @@
-//! Laws of the definitions that the contracts cite: functions without work, whose contracts are the laws.
+//! Laws of the definitions that the contracts cite: functions without work, whose contracts are the
+//! laws.
 ghost use Rattle.std.specs.Prelude.{◌≡◌, ◌⊎◌, ◌↔◌, List, ℕ, IsTrue};
 ghost use Rattle.alma_ir.specs.Tree.{Program};
 ghost use Rattle.alma_plan.specs.Causes.{Causes};
@@ -23,8 +24,8 @@ pub fn names_are_those_that_are_watched()
     ensures names { (text : List ℕ) → IsTrue (is_name text) ↔ IsName text }
 {}
 
-/// Words name an object and a script, and the plan goes by these; or one is the first that cannot stand where it is, or they end too
-/// early, and the plan tells that.
+/// Words name an object and a script, and the plan goes by these; or one is the first that cannot
+/// stand where it is, or they end too early, and the plan tells that.
 pub fn words_are_a_request_or_have_a_bad_word()
     ensures request { (words : List (List ℕ)) (object script : List ℕ)
         → AsksToWalk words object script
@@ -35,9 +36,10 @@ pub fn words_are_a_request_or_have_a_bad_word()
         ⊎ ((k : ℕ) × IsBadWord IsRequest words k) }
 {}
 
-/// A call that walks a program whose object `alma compile` stored, where memory is found and nothing fails outside, shows of each line,
-/// as the run of the object's code stands after it, the number of steps, the cells of a variable of the program, which at a success are
-/// those of its meaning, or how many bytes of what its meaning prints were printed.
+/// A call that walks a program whose object `alma compile` stored, where memory is found and
+/// nothing fails outside, shows of each line, as the run of the object's code stands after it, the
+/// number of steps, the cells of a variable of the program, which at a success are those of its
+/// meaning, or how many bytes of what its meaning prints were printed.
 pub fn a_walk_shows_its_program()
     ensures shown { (words : List (List ℕ)) (p : Program) (lines : List Line) (input : List ℕ)
         (before after : Outside) (status : ℕ) (asks : WalksProgram words before p lines input)

@@ -39,13 +39,15 @@ fn tell<E: Sink>(err: &mut E, end: BackEnd) -> Status
     }
 }
 
-/// All that the program does: it fetches the object and the script that the words name, walks the run of the object by the lines
-/// of the script, step by step forward and back, and prints what each line shows. `words` are those behind the program's name.
+/// All that the program does: it fetches the object and the script that the words name, walks the
+/// run of the object by the lines of the script, step by step forward and back, and prints what
+/// each line shows. `words` are those behind the program's name.
 ///
-/// The status is 0 where all lines were done, 2 for a bad word, 6 for a read fault, 7 for a write fault, 8 for want of memory, 9
-/// for bytes that are no object and for code that is not sound, 10 for a script of more than 1,048,576 bytes, an object of more
-/// than 268,435,456 or an input of more than 16,777,216, and 13 for a line of the script that is none. The input is read only
-/// where the code reads.
+/// The status is 0 where all lines were done, 2 for a bad word, 6 for a read fault, 7 for a write
+/// fault, 8 for want of memory, 9 for bytes that are no object and for code that is not sound, 10
+/// for a script of more than 1,048,576 bytes, an object of more than 268,435,456 or an input of
+/// more than 16,777,216, and 13 for a line of the script that is none. The input is read only where
+/// the code reads.
 pub fn back_main<F: Files, I: Source, O: Sink, E: Sink>(
     alloc: Global,
     words: &[String],

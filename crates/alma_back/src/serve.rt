@@ -17,7 +17,8 @@ use std::alloc::Global;
 /// The greatest number of bytes of a script.
 const SCRIPT_LIMIT: usize = 1_048_576;
 
-// The names of an object and of a script, or the first word, from 1, that cannot stand where it is, or one more than there are.
+// The names of an object and of a script, or the first word, from 1, that cannot stand where it is,
+// or one more than there are.
 fn file_words(words: &[String]) -> Result<(&str, &str), usize>
     ensures names { IfOk result (λ names. back_plan (texts words.now)
         ≡ fetch_plan names.0.now names.1.now) }
@@ -80,7 +81,8 @@ fn serve<F: Files, I: Source, O: Sink>(
     }
 }
 
-/// Does what the words ask: the end that it comes to, with all its bytes on `out` where none failed.
+/// Does what the words ask: the end that it comes to, with all its bytes on `out` where none
+/// failed.
 pub fn perform<F: Files, I: Source, O: Sink>(
     alloc: Global,
     words: &[String],

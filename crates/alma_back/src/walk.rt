@@ -107,7 +107,8 @@ fn walk_object<I: Source, O: Sink>(
     }
 }
 
-/// Both files are there: the script is walked, unless one of its lines is bad, or the object is refused.
+/// Both files are there: the script is walked, unless one of its lines is bad, or the object is
+/// refused.
 pub fn judge<I: Source, O: Sink>(
     alloc: Global,
     object: &[u8],

@@ -12,8 +12,8 @@ use alma_base::{INSTR_LIMIT, NoMemory, SLOT_LIMIT};
 use alma_code::{Instr, SlotKind};
 use std::alloc::Global;
 
-/// The instructions of one code, each with its line, the number of the next slot of the routine in hand, and the kinds of
-/// the slots that were taken, over all routines in order.
+/// The instructions of one code, each with its line, the number of the next slot of the routine in
+/// hand, and the kinds of the slots that were taken, over all routines in order.
 #[derive(Drop)]
 pub struct Emit {
     pub code: Vec<(Instr, u32)>,
@@ -94,7 +94,8 @@ impl Emit {
         slot
     }
 
-    // A mark slot, which is the next slot, and all of these instructions, or neither; and the address of the first.
+    // A mark slot, which is the next slot, and all of these instructions, or neither; and the
+    // address of the first.
     fn put_marked(&mut self, line: u32, instrs: &[Instr]) -> Result<u32, NoMemory>
         ensures address { IfOk result (λ at. at ≡ length (made self.old)) }
         ensures small { IfOk result (λ at. at + length instrs.now ≤ instr_limit) }
@@ -173,8 +174,9 @@ impl Emit {
         self.code[count - 1] = (placed_to(instr, to), line);
     }
 
-    /// The front of a phrase of which the first alternative is taken: its mark, and the address of the choice, which is
-    /// still to be aimed where the code goes on without an alternative. `Cut` of the mark goes behind the phrase.
+    /// The front of a phrase of which the first alternative is taken: its mark, and the address of
+    /// the choice, which is still to be aimed where the code goes on without an alternative. `Cut`
+    /// of the mark goes behind the phrase.
     pub fn begin_first(&mut self, line: u32) -> Result<(u32, u32), NoMemory>
         ensures mark { IfOk result (λ r. r.0 ≡ self.old.next) }
         ensures choice { IfOk result (λ r. r.1 ≡ length (made self.old) + 1) }
@@ -203,8 +205,8 @@ impl Emit {
         Ok((mark, forall))
     }
 
-    /// Behind the alternative of the first part of FORALL: the mark of the body, and the address of the overlay, which is
-    /// still to be aimed.
+    /// Behind the alternative of the first part of FORALL: the mark of the body, and the address of
+    /// the overlay, which is still to be aimed.
     pub fn begin_each(&mut self, line: u32, mark: u32) -> Result<(u32, u32), NoMemory>
         ensures inner { IfOk result (λ r. r.0 ≡ self.old.next) }
         ensures overlay { IfOk result (λ r. r.1 ≡ length (made self.old)) }

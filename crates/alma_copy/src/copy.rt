@@ -52,8 +52,8 @@ fn copy_root(root: Root, moves: &Moves<'_>) -> Result<Root, NoMemory>
     }
 }
 
-/// The variable of the module at its new slot. NoMemory also where a u32 does not hold the slot, which is not so within
-/// the limits of a program.
+/// The variable of the module at its new slot. NoMemory also where a u32 does not hold the slot,
+/// which is not so within the limits of a program.
 pub fn copy_global(
     alloc: Global,
     global: &Variable,
@@ -70,8 +70,8 @@ pub fn copy_global(
     })
 }
 
-/// The routine, its body and the routine round it numbered anew. NoMemory also where a u32 does not hold a slot, which
-/// is not so within the limits of a program.
+/// The routine, its body and the routine round it numbered anew. NoMemory also where a u32 does not
+/// hold a slot, which is not so within the limits of a program.
 pub fn copy_routine(
     alloc: Global,
     routine: &Routine,
@@ -94,8 +94,8 @@ pub fn copy_routine(
     })
 }
 
-/// The statements with their slots and routines numbered anew. NoMemory also where a u32 does not hold a slot, which is
-/// not so within the limits of a program.
+/// The statements with their slots and routines numbered anew. NoMemory also where a u32 does not
+/// hold a slot, which is not so within the limits of a program.
 #[cycle(copy)]
 pub fn copy_stmts(alloc: Global, body: &[Stmt], moves: &Moves<'_>) -> Result<Vec<Stmt>, NoMemory>
     ensures { IfOk result (λ v. stmts_list v.items

@@ -16,13 +16,13 @@ use std::alloc::Global;
 /// print on `out`; what stands in the way is told on `err`. `compile` alone changes a file: the one
 /// that it stores.
 ///
-/// The status is 0 for success, 1 for a program that fails, 2 for a bad word, 3 for a source that is no
-/// program, which is told with the line and the column of its first fault, 4 for a fault of the run, 5
-/// for steps that ran out, 6 for a read fault, also of the input, which is read only where the code of
-/// a run reads, 7 for a write fault or a store that failed, 8 for want of memory, 9 for bytes that are
-/// no object and for an object to run whose code is not sound, 10 for a source of more than 1,048,576
-/// bytes or an object of more than 268,435,456 or an input of more than 16,777,216, and 11 for a
-/// program whose size passes 4,194,304.
+/// The status is 0 for success, 1 for a program that fails, 2 for a bad word, 3 for a source that
+/// is no program, which is told with the line and the column of its first fault, 4 for a fault of
+/// the run, 5 for steps that ran out, 6 for a read fault, also of the input, which is read only
+/// where the code of a run reads, 7 for a write fault or a store that failed, 8 for want of memory,
+/// 9 for bytes that are no object and for an object to run whose code is not sound, 10 for a source
+/// of more than 1,048,576 bytes or an object of more than 268,435,456 or an input of more than
+/// 16,777,216, and 11 for a program whose size passes 4,194,304.
 pub fn alma<F: Files, I: Source, O: Sink, E: Sink>(
     alloc: Global,
     words: &[String],

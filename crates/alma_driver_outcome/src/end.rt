@@ -11,7 +11,8 @@ use alma_machine::RunEnd;
 use alma_object::ObjectFault;
 use alma_source::SourceFault;
 
-/// What a run counted: the steps that it made, the choice entries that it pushed, and those that it popped.
+/// What a run counted: the steps that it made, the choice entries that it pushed, and those that it
+/// popped.
 #[derive(Clone, Copy, Debug, PartialEq, Eq)]
 pub struct Counts {
     pub steps: u64,
@@ -84,7 +85,8 @@ impl End {
         }
     }
 
-    /// The text on err behind counts, but for that of an end which names a word, a place, a fault, a size or counts.
+    /// The text on err behind counts, but for that of an end which names a word, a place, a fault,
+    /// a size or counts.
     pub fn fixed_text(self) -> &'static [u8]
         ensures { result.now ≡ fixed_text self }
     {

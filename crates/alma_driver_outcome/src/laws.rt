@@ -1,4 +1,5 @@
-//! Laws of the definitions that the contracts cite: functions without work, whose contracts are the laws.
+//! Laws of the definitions that the contracts cite: functions without work, whose contracts are the
+//! laws.
 ghost use Rattle.std.specs.Prelude.{◌≡◌, ◌≤◌, ◌+◌, ◌*◌, Bool, List, ℕ, Option, Some, map};
 ghost use Rattle.alma_base.specs.Limits.{size_limit};
 ghost use Rattle.alma_source.specs.Refusal.{IsProgramOf};
@@ -21,15 +22,16 @@ ghost use Rattle.alma_ir.specs.Tree.{Program};
 ghost use Rattle.alma_mean.specs.Events.{first, end_of, visit_count, CutOff};
 ghost use Rattle.alma_mean.specs.Meaning.{ev_program, result as meant_at};
 
-/// What a run of a program comes to is its meaning on the input that is read: with one more unfolding than steps its
-/// result, each fault at its line; or, where the steps ran out, a front of its prints that covers one visit for each 32
-/// steps.
+/// What a run of a program comes to is its meaning on the input that is read: with one more
+/// unfolding than steps its result, each fault at its line; or, where the steps ran out, a front of
+/// its prints that covers one visit for each 32 steps.
 pub fn a_run_is_what_its_program_means()
     ensures means { (left : Option (List ℕ)) (p : Program) (steps : ℕ) (stats : Bool) (due : Due)
         → ProgramOutcome left p steps (Prints stats) due → Meant left p steps stats due }
 {}
 
-/// What a trace of a program comes to ends as the meaning does on the input that is read; or its steps ran out.
+/// What a trace of a program comes to ends as the meaning does on the input that is read; or its
+/// steps ran out.
 pub fn a_trace_ends_as_its_program_means()
     ensures ends { (left : Option (List ℕ)) (p : Program) (steps : ℕ)
         (names : List (List ℕ)) (due : Due)
@@ -56,7 +58,8 @@ pub fn what_is_stored_implements_its_program()
         → SpellsCodeOf p stored.bytes }
 {}
 
-/// What `exec` comes to of the bytes that compiling a source stores is what `run` of that source comes to.
+/// What `exec` comes to of the bytes that compiling a source stores is what `run` of that source
+/// comes to.
 pub fn a_stored_object_runs_as_its_source()
     ensures runs { (source object : List ℕ) (left : Option (List ℕ)) (steps : ℕ) (stats : Bool)
         (compiling running : Due) (stored : StoredFile)
@@ -65,8 +68,9 @@ pub fn a_stored_object_runs_as_its_source()
         → SourceOutcome source (λ p. ProgramOutcome left p steps (Prints stats)) running }
 {}
 
-/// The values that a trace shows of watched names are those of the variables of the source: of each the cells from its
-/// slot on. The routines that a trace and a listing name have the names of the source's.
+/// The values that a trace shows of watched names are those of the variables of the source: of each
+/// the cells from its slot on. The routines that a trace and a listing name have the names of the
+/// source's.
 pub fn a_trace_shows_the_variables_of_its_source()
     ensures variables { (code : PlainCode) (p : Program) (names : List (List ℕ)) (s : State)
         → KeepsNames code p
@@ -75,10 +79,11 @@ pub fn a_trace_shows_the_variables_of_its_source()
         → (plain.routine_at code r).name ≡ (tree.routine_at p r).name }
 {}
 
-/// A run of a source on an input, which is told where its program has a READ, and any other one elsewhere, where memory
-/// is found and nothing fails outside, refuses the source for its one stated fault, or for its size; or prints what its
-/// program means and ends in its success, failure or fault; or its steps ran out, and it printed a front of that, which
-/// covers one visit for each 32 steps.
+/// A run of a source on an input, which is told where its program has a READ, and any other one
+/// elsewhere, where memory is found and nothing fails outside, refuses the source for its one
+/// stated fault, or for its size; or prints what its program means and ends in its success, failure
+/// or fault; or its steps ran out, and it printed a front of that, which covers one visit for each
+/// 32 steps.
 pub fn a_run_shows_what_its_source_means()
     ensures shown { (words : List (List ℕ)) (source input : List ℕ) (steps : ℕ) (stats : Bool)
         (before after : Outside) (status : ℕ) → AsksToRun words before source input steps stats
@@ -86,8 +91,8 @@ pub fn a_run_shows_what_its_source_means()
         → RunEnds words source input steps stats before after status }
 {}
 
-/// A run of a source, where memory is found and nothing fails outside, reads the input whole where its program has a
-/// READ, and leaves it elsewhere.
+/// A run of a source, where memory is found and nothing fails outside, reads the input whole where
+/// its program has a READ, and leaves it elsewhere.
 pub fn the_input_is_read_whole_where_the_program_reads()
     ensures left { (words : List (List ℕ)) (source input : List ℕ) (steps : ℕ) (stats : Bool)
         (before after : Outside) (status : ℕ) (p : Program)
@@ -97,8 +102,8 @@ pub fn the_input_is_read_whole_where_the_program_reads()
         → IsInputLeft (program_reads p) before.input after.input }
 {}
 
-/// Where the meaning comes to its end at some level, 32 steps for each of its visits, and 32 more, are enough for its
-/// result.
+/// Where the meaning comes to its end at some level, 32 steps for each of its visits, and 32 more,
+/// are enough for its result.
 pub fn enough_steps_show_the_result()
     ensures shown { (words : List (List ℕ)) (source input : List ℕ) (steps : ℕ) (stats : Bool)
         (before after : Outside) (status : ℕ) (p : Program) (level : ℕ)

@@ -176,8 +176,8 @@ fn write_end<E: Sink>(err: &mut E, file: &str, end: End) -> Result<(), Failed>
     write_text(err, file, end)
 }
 
-/// Writes the text of an end to err, where the words name this file, and gives the status: that of a write fault where err
-/// fails.
+/// Writes the text of an end to err, where the words name this file, and gives the status: that of
+/// a write fault where err fails.
 pub fn report<E: Sink>(err: &mut E, file: &str, end: End) -> Status
     ensures { Reports file.now end (E.side err.old)
         (E.side err.new) result.0 }

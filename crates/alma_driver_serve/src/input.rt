@@ -99,7 +99,8 @@ fn run_reading<I: Source, O: Sink>(
     }
 }
 
-/// Runs verified code for at most so many steps. Where it reads, the whole input is read before; else it is left.
+/// Runs verified code for at most so many steps. Where it reads, the whole input is read before;
+/// else it is left.
 pub fn run_verified<I: Source, O: Sink>(
     alloc: Global,
     code: Verified<'_>,

@@ -122,7 +122,8 @@ fn sum_up<O: Sink>(alloc: Global, lines: u32, source: &[u8], out: &mut O) -> End
     }
 }
 
-/// Makes a source of so many lines, runs it on an empty input, and writes the line that sums up the run.
+/// Makes a source of so many lines, runs it on an empty input, and writes the line that sums up the
+/// run.
 pub fn sample<O: Sink>(alloc: Global, lines: u32, out: &mut O) -> End
     requires few { lines ≤ greatest_lines }
     ensures { Goes (SampleOutcome lines)

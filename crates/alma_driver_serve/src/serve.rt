@@ -89,7 +89,8 @@ fn serve<F: Files, I: Source, O: Sink>(
     }
 }
 
-/// Does what the words ask: the end that it comes to, with all its bytes on `out` where none failed.
+/// Does what the words ask: the end that it comes to, with all its bytes on `out` where none
+/// failed.
 pub fn perform<F: Files, I: Source, O: Sink>(
     alloc: Global,
     words: &[String],

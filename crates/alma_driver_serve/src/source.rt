@@ -58,7 +58,8 @@ pub fn run_source<I: Source, O: Sink>(
     }
 }
 
-/// Compiles a source and traces the run of its object for at most so many steps, with the values of watched names.
+/// Compiles a source and traces the run of its object for at most so many steps, with the values of
+/// watched names.
 pub fn trace_source<I: Source, O: Sink>(
     alloc: Global,
     source: &[u8],

@@ -28,7 +28,8 @@ fn bytes_of<'n>(alloc: Global, names: &[&'n str]) -> Result<Vec<&'n [u8]>, NoMem
     Ok(all)
 }
 
-// Runs verified code for at most so many steps, and traces the run, with the values of watched globals.
+// Runs verified code for at most so many steps, and traces the run, with the values of watched
+// globals.
 fn trace_watched<O: Sink>(
     alloc: Global,
     code: Verified<'_>,
@@ -76,7 +77,8 @@ fn trace_named<O: Sink>(
     }
 }
 
-/// Runs verified code for at most so many steps, and traces the run, with the values of watched names.
+/// Runs verified code for at most so many steps, and traces the run, with the values of watched
+/// names.
 pub fn trace_on<O: Sink>(
     alloc: Global,
     code: Verified<'_>,

@@ -33,11 +33,13 @@ pub enum Request<'w> {
     Compile(&'w str, &'w str),
     /// `list OBJ`: prints the text that lists the object of this name.
     List(&'w str),
-    /// `run FILE`: runs the source of this name for so many steps at most, with a line of statistics where that is asked for.
+    /// `run FILE`: runs the source of this name for so many steps at most, with a line of
+    /// statistics where that is asked for.
     Run(&'w str, u64, bool),
     /// `exec OBJ`: runs the object of this name, as `run` does.
     Exec(&'w str, u64, bool),
-    /// `trace FILE`: traces the run of the source of this name for so many steps at most, and watches variables of these names.
+    /// `trace FILE`: traces the run of the source of this name for so many steps at most, and
+    /// watches variables of these names.
     Trace(&'w str, u64, Vec<&'w str>),
     /// `sample NUMBER`: makes a source of so many lines and runs it.
     Sample(u32),

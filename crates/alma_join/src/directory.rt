@@ -28,8 +28,8 @@ pub enum Matches<'p> {
     Many,
 }
 
-/// The procedures of level 1 that stay, those with one name in their order; and the new number of the
-/// next routine.
+/// The procedures of level 1 that stay, those with one name in their order; and the new number of
+/// the next routine.
 #[derive(Drop)]
 pub struct Directory<'p> {
     pub entries: IndexMap<Vec<u8>, Vec<Export<'p>>>,

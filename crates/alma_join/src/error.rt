@@ -5,8 +5,8 @@ ghost use Rattle.alma_join.specs.declared.error.JoinError.TheVariants.{Memory};
 use alma_base::NoMemory;
 use std::alloc::AllocFailed;
 
-/// Why modules are not joined: the fault of the first bare routine that has one, by its unit, from 1,
-/// and its number; or the unit with which a bound is first passed.
+/// Why modules are not joined: the fault of the first bare routine that has one, by its unit, from
+/// 1, and its number; or the unit with which a bound is first passed.
 #[derive(Clone, Copy, Debug, PartialEq, Eq)]
 pub enum JoinError {
     /// No match.

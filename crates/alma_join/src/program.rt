@@ -47,8 +47,8 @@ fn program_with(alloc: Global, first: &Program, parts: Parts) -> Result<Program,
     })
 }
 
-/// The program of 1 to 16 modules that were checked apart. Memory also where a number does not fit a
-/// u32, which is not so within the limits of a program.
+/// The program of 1 to 16 modules that were checked apart. Memory also where a number does not fit
+/// a u32, which is not so within the limits of a program.
 pub fn join(alloc: Global, units: &[Program]) -> Result<Program, JoinError>
     requires units { AreUnits (map program_of units.now) }
     ensures joined { IfOk result (λ p. program_of p ≡ joined_program (map program_of units.now)) }

@@ -1,4 +1,5 @@
-//! Modules that were checked apart: they are joined to one program, which is run, or whose object is stored.
+//! Modules that were checked apart: they are joined to one program, which is run, or whose object
+//! is stored.
 #![tactic(auto)]
 
 mod end;

@@ -24,7 +24,8 @@ use std::alloc::Global;
 /// The name of the program.
 const PROGRAM: &[u8] = b"alma_link";
 
-// The name of a routine of a module by their numbers, that of the module from 1; empty where there is none.
+// The name of a routine of a module by their numbers, that of the module from 1; empty where there
+// is none.
 fn routine_name(units: &[Program], unit: u32, routine: u32) -> &[u8]
     ensures { result.now ≡ (routine_at (unit_at (map program_of units.now) unit) routine).name }
 {
@@ -87,7 +88,8 @@ fn tell_join<E: Sink>(err: &mut E, units: &[Program], error: JoinError) -> Statu
     }
 }
 
-// Says on err how the call ends, which read these modules: the status of that, or that of a write fault where err fails.
+// Says on err how the call ends, which read these modules: the status of that, or that of a write
+// fault where err fails.
 fn tell<E: Sink>(err: &mut E, units: &[Program], end: LinkEnd<'_>) -> Status
     ensures { Reports (link_end (map program_of units.now) end.entry) (E.side err.old)
         (E.side err.new) result.0 }
@@ -100,14 +102,15 @@ fn tell<E: Sink>(err: &mut E, units: &[Program], end: LinkEnd<'_>) -> Status
     }
 }
 
-/// All that the program does: it reads the modules that the words name, each to its end and checked before the next is
-/// fetched, joins them to one program, and runs that for at most 1,000,000,000 steps, or stores its object. `words` are those
-/// behind the program's name.
+/// All that the program does: it reads the modules that the words name, each to its end and checked
+/// before the next is fetched, joins them to one program, and runs that for at most 1,000,000,000
+/// steps, or stores its object. `words` are those behind the program's name.
 ///
-/// The status is 0 where the run succeeded or the object is stored, 1 where the run failed, 2 for a bad word, 3 for a module
-/// that is refused, 4 for a fault of the run, 5 where all steps were made, 6 for a read fault, 7 for a write fault, 8 for want
-/// of memory, 10 for a file of more than 1,048,576 bytes or an input of more than 16,777,216, 11 for too much code, and 13 for
-/// modules that cannot be joined. The input is read only where the joined program reads.
+/// The status is 0 where the run succeeded or the object is stored, 1 where the run failed, 2 for a
+/// bad word, 3 for a module that is refused, 4 for a fault of the run, 5 where all steps were made,
+/// 6 for a read fault, 7 for a write fault, 8 for want of memory, 10 for a file of more than
+/// 1,048,576 bytes or an input of more than 16,777,216, 11 for too much code, and 13 for modules
+/// that cannot be joined. The input is read only where the joined program reads.
 pub fn link<F: Files, I: Source, O: Sink, E: Sink>(
     alloc: Global,
     words: &[String],

@@ -64,7 +64,8 @@ fn serve_units<'w, F: Files, I: Source, O: Sink>(
     }
 }
 
-// Reads the modules of these names, each before the next is fetched, behind those that were, and then joins them.
+// Reads the modules of these names, each before the next is fetched, behind those that were, and
+// then joins them.
 fn serve_files<'w, F: Files, I: Source, O: Sink>(
     alloc: Global,
     task: Task<'w>,
@@ -97,8 +98,8 @@ fn serve_files<'w, F: Files, I: Source, O: Sink>(
     }
 }
 
-/// Does what the words ask: the end that it comes to, by the modules that were read, with all its bytes on `out` where none
-/// failed.
+/// Does what the words ask: the end that it comes to, by the modules that were read, with all its
+/// bytes on `out` where none failed.
 pub fn perform<'w, F: Files, I: Source, O: Sink>(
     alloc: Global,
     words: &'w [String],

@@ -26,8 +26,8 @@ pub struct Request<'w> {
     pub files: &'w [String],
 }
 
-// The first word, from 1, that is no file or one too many, or one more than there are where none is a file, behind so many
-// words, of which those before the files are `before`.
+// The first word, from 1, that is no file or one too many, or one more than there are where none is
+// a file, behind so many words, of which those before the files are `before`.
 fn bad_file(before: usize, seen: usize, words: &[String]) -> Option<usize>
     requires few { before ≤ 2 }
     requires within { seen ≤ before + greatest_files }
@@ -78,7 +78,8 @@ fn compile_request(words: &[String]) -> Result<Request<'_>, usize>
     }
 }
 
-/// The request that the words are, or the first word, from 1, that cannot stand where it is, or one more than there are.
+/// The request that the words are, or the first word, from 1, that cannot stand where it is, or one
+/// more than there are.
 pub fn request_of(words: &[String]) -> Result<Request<'_>, usize>
     ensures request { MatchResult result
         (λ r. request_named (texts words.now) ≡ Ok (request_in r))

@@ -14,7 +14,8 @@ use alma_ir::{
 };
 use std::alloc::Global;
 
-// The slots of the procedure: the number of the cell that is written, and the count and the limit of its loop.
+// The slots of the procedure: the number of the cell that is written, and the count and the limit
+// of its loop.
 const INDEX: u32 = 0;
 
 const COUNT: u32 = 1;

@@ -35,8 +35,8 @@ impl From<NoMemory> for AllError {
     }
 }
 
-/// The program that lists another: behind the statements of the module it calls a procedure more, which writes the line of
-/// the store, and then fails, so that the next alternative is asked for.
+/// The program that lists another: behind the statements of the module it calls a procedure more,
+/// which writes the line of the store, and then fails, so that the next alternative is asked for.
 pub fn listing_program(alloc: Global, program: &Program) -> Result<Program, AllError>
     requires checked { IsChecked (program_of program.now) }
     requires room { HasRoom (program_of program.now) }

@@ -5,8 +5,8 @@ ghost use Rattle.alma_listing.specs.Inner.{stmts_return, stmt_returns, arms_retu
 
 use alma_ir::{Arm, Branch, CaseArm, Stmt};
 
-/// A RETURN stands in the statements: in those of a checked program at any depth, since none stands inside a test, a
-/// FORALL or a COMMIT there.
+/// A RETURN stands in the statements: in those of a checked program at any depth, since none stands
+/// inside a test, a FORALL or a COMMIT there.
 #[cycle(returns)]
 pub(crate) fn has_return(body: &[Stmt]) -> bool
     ensures { result ≡ stmts_return (stmts_list body.now) }

@@ -48,7 +48,8 @@ pub fn put_end(work: &mut Work, routine: &Routine) -> Result<(), NoMemory>
     Ok(())
 }
 
-/// The head of a routine whose slots are of these kinds, and whose code ends before an address. At a limit this is NoMemory.
+/// The head of a routine whose slots are of these kinds, and whose code ends before an address. At
+/// a limit this is NoMemory.
 pub fn head_of(
     alloc: Global,
     routine: &Routine,
@@ -74,7 +75,8 @@ pub fn head_of(
     })
 }
 
-// The parameters of a routine, its link before the others. At the limit of records this is NoMemory.
+// The parameters of a routine, its link before the others. At the limit of records this is
+// NoMemory.
 fn few_params(alloc: Global, routine: &Routine) -> Result<Vec<CodeParam>, NoMemory>
     ensures params { IfOk result (λ params. params.items ≡ compiled.link_params routine.now.level
         routine.now.outer ++ map compiled.param_named routine.now.params.items) }

@@ -37,7 +37,8 @@ impl From<NoMemory> for LowerError {
     }
 }
 
-/// The code of a program, whose temporaries share slots. `Memory` is the answer past a limit of codes, too.
+/// The code of a program, whose temporaries share slots. `Memory` is the answer past a limit of
+/// codes, too.
 pub fn lower(alloc: Global, program: &Program) -> Result<Code, LowerError>
     requires checked { IsChecked (program_of program.now) }
     ensures code { IfOk result (λ code. IsCodeFor (program_of program.now) (code_of code)) }

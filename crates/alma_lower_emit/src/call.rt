@@ -13,7 +13,8 @@ use alma_base::NoMemory;
 use alma_ir::{Arg, Call, Stmt};
 use alma_lower_parts::{Scene, Work, begin_call, put_function, slot_of, slot_past, take_result};
 
-// The link and the arguments of a call; the slot of the first of them, or 0 where nothing is handed over.
+// The link and the arguments of a call; the slot of the first of them, or 0 where nothing is handed
+// over.
 #[cycle(emit)]
 pub(crate) fn emit_call<S>(
     work: &mut Work,

@@ -44,8 +44,8 @@ where
     emit_all_arms(work, scene, line, labels, arms, rest, inside)
 }
 
-// The arms of CASE without a label, behind a jump over them, where there are some: they are never tried. The lines of all
-// arms are still to be handed out.
+// The arms of CASE without a label, behind a jump over them, where there are some: they are never
+// tried. The lines of all arms are still to be handed out.
 fn emit_dead_arms<S>(
     work: &mut Work,
     scene: &Scene<'_>,

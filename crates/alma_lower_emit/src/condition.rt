@@ -15,8 +15,8 @@ use alma_code::Instr;
 use alma_ir::{Stmt, Test};
 use alma_lower_parts::{Scene, Work, begin_first, is_plain, slot_of};
 
-/// A condition; the address of the jump where it has no alternative, which is still to be aimed. One that cannot leave an
-/// alternative behind is tested by a jump.
+/// A condition; the address of the jump where it has no alternative, which is still to be aimed.
+/// One that cannot leave an alternative behind is tested by a jump.
 #[cycle(emit)]
 pub fn emit_guard<S>(
     work: &mut Work,

@@ -18,7 +18,8 @@ use alma_lower_parts::{
     Scene, Taken, Work, begin_while, end_repeat, put_back, put_held, put_held_back, turned_test,
 };
 
-// A condition, and what is done where it has an alternative; else the code goes on behind the jump that follows.
+// A condition, and what is done where it has an alternative; else the code goes on behind the jump
+// that follows.
 fn emit_guarded<S>(
     work: &mut Work,
     scene: &Scene<'_>,
@@ -139,7 +140,8 @@ where
     emit_back(work, scene, line, how, left, right, held, top, inside)
 }
 
-// A comparison, which goes back to `top` while it holds. A constant that is its second operand is held in a slot.
+// A comparison, which goes back to `top` while it holds. A constant that is its second operand is
+// held in a slot.
 fn emit_back<S>(
     work: &mut Work,
     scene: &Scene<'_>,

@@ -1,6 +1,5 @@
 // What is put below the recursion, behind a part whose result is handed on unopened.
 ghost use Rattle.std.specs.Prelude.{◌∷◌, [], IfOk, IsOk, OnOk};
-ghost use Rattle.alma_code.specs.declared.cell.SlotKind.TheVariants as slot;
 ghost use Rattle.alma_code.specs.declared.instr.Instr.TheVariants as instr;
 ghost use Rattle.alma_lower_templates.specs.LineInstr.{own};
 ghost use Rattle.alma_lower_templates.specs.Pieces as pieces;
@@ -10,7 +9,6 @@ ghost use Rattle.alma_lower_work.specs.Front.{around, front, result_of, Codes};
 ghost use Rattle.alma_lower_parts.specs.Steps.{PutsTwo};
 
 use alma_base::{NoMemory, Range};
-use alma_code::Instr;
 use alma_ir::{ReadAs, WriteAs};
 use alma_lower_parts::{Scene, Work, put_read, put_return, write_instr};
 

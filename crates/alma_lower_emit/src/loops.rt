@@ -100,7 +100,8 @@ where
     })
 }
 
-// The first count of a loop, and its slot: a constant has no code, since it goes straight to the slot of the count.
+// The first count of a loop, and its slot: a constant has no code, since it goes straight to the
+// slot of the count.
 fn emit_first_count<S>(
     work: &mut Work,
     scene: &Scene<'_>,
@@ -121,7 +122,8 @@ where
     }
 }
 
-// The limit of a loop goes to its slot. A variable of the routine stands for itself, and takes a slot all the same.
+// The limit of a loop goes to its slot. A variable of the routine stands for itself, and takes a
+// slot all the same.
 fn emit_limit<S>(
     work: &mut Work,
     scene: &Scene<'_>,
@@ -150,7 +152,8 @@ where
     )
 }
 
-// A turn: the count is checked, the variable is set, and the body follows with the lines behind those of the bounds.
+// A turn: the count is checked, the variable is set, and the body follows with the lines behind
+// those of the bounds.
 fn emit_turn<S>(
     work: &mut Work,
     scene: &Scene<'_>,

@@ -51,7 +51,8 @@ pub(crate) fn place_of(
     Ok(())
 }
 
-// The place of a parameter for the slot of an argument, from its own slot; a slot is taken all the same.
+// The place of a parameter for the slot of an argument, from its own slot; a slot is taken all the
+// same.
 pub(crate) fn hand_own(
     work: &mut Work,
     line: u32,

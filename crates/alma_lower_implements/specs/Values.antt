@@ -24,7 +24,7 @@ first_store Fail = None
 first_store (Fault fault line) = None
 first_store Cut = None
 
--- what a cell of a variable is in the machine; none holds a place
+-- what a cell of the store is taken for in the machine: Unknown for Unknown, Int for a number, and Unset for any place
 abbrev pub cell_of_value : store.Cell → Cell
 cell_of_value Unknown = cell.Unknown
 cell_of_value (Number v) = cell.Int v

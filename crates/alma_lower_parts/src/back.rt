@@ -1,4 +1,5 @@
-// The constant of a comparison that stands behind the body of WHILE: it is put once, before the loop.
+// The constant of a comparison that stands behind the body of WHILE: it is put once, before the
+// loop.
 ghost use Rattle.std.specs.Prelude.{◌∷◌, [], IfOk, OnOk};
 ghost use Rattle.alma_code.specs.declared.cell.SlotKind.TheVariants as slot;
 ghost use Rattle.alma_code.specs.declared.instr.Instr.TheVariants as instr;
@@ -29,7 +30,8 @@ pub fn put_held(work: &mut Work, line: u32, expr: &Expr) -> Result<Option<u32>, 
     }
 }
 
-/// The end of a comparison with a constant that is held: the slot of the operand itself is taken, and stays unused.
+/// The end of a comparison with a constant that is held: the slot of the operand itself is taken,
+/// and stays unused.
 pub fn put_held_back(
     work: &mut Work,
     line: u32,

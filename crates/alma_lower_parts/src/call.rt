@@ -87,7 +87,8 @@ pub fn take_handed(work: &mut Work, args: &[Arg]) -> Result<u32, NoMemory>
     Ok(first)
 }
 
-/// The slot of the first of what is handed over: the link, or the first argument, or 0 where nothing is.
+/// The slot of the first of what is handed over: the link, or the first argument, or 0 where
+/// nothing is.
 pub fn first_handed(link: Option<u32>, args: &[Arg], to: u32) -> u32
     ensures { result ≡ first_of_call link (args_list args.now) to }
 {
@@ -97,7 +98,8 @@ pub fn first_handed(link: Option<u32>, args: &[Arg], to: u32) -> u32
     }
 }
 
-/// The slot of the first of what is handed over, or 0 where nothing is, and that of the first argument.
+/// The slot of the first of what is handed over, or 0 where nothing is, and that of the first
+/// argument.
 #[derive(Clone, Copy)]
 pub struct Handover {
     pub first: u32,

@@ -14,7 +14,8 @@ use alma_code::{Instr, SlotKind};
 use alma_ir::CaseArm;
 use alma_lower_work::Work;
 
-/// What the labels of an arm need: the slot of the value, and two slots for the ends of a label and for the test of one.
+/// What the labels of an arm need: the slot of the value, and two slots for the ends of a label and
+/// for the test of one.
 #[derive(Clone, Copy)]
 pub struct Labels {
     pub value: u32,
@@ -22,8 +23,8 @@ pub struct Labels {
     pub test: u32,
 }
 
-/// The jumps of the last label, which are to be aimed where the number lies in none: that behind its lower end and that
-/// behind its upper end, or twice the one of a label of one number.
+/// The jumps of the last label, which are to be aimed where the number lies in none: that behind
+/// its lower end and that behind its upper end, or twice the one of a label of one number.
 #[derive(Clone, Copy)]
 pub struct Miss {
     pub low: u32,
@@ -147,7 +148,8 @@ fn put_between(work: &mut Work, line: u32, labels: Labels, label: Range) -> Resu
     Ok(Miss { low, high })
 }
 
-/// A label that is not the last of its arm: goes to `hit` where the number lies in it, else on behind.
+/// A label that is not the last of its arm: goes to `hit` where the number lies in it, else on
+/// behind.
 pub fn put_label(
     work: &mut Work,
     line: u32,
@@ -167,7 +169,8 @@ pub fn put_label(
     Ok(())
 }
 
-/// Behind the arms of CASE without a label: lines are handed out anew from a position on, and the jump over the arms is aimed.
+/// Behind the arms of CASE without a label: lines are handed out anew from a position on, and the
+/// jump over the arms is aimed.
 pub fn end_dead(
     work: &mut Work,
     done: Result<(), NoMemory>,
@@ -199,7 +202,8 @@ pub fn then_take_labels(
     take_labels(work, value)
 }
 
-/// Behind the body of an arm of CASE: the jumps of its last label are aimed behind the jump that follows.
+/// Behind the body of an arm of CASE: the jumps of its last label are aimed behind the jump that
+/// follows.
 pub fn end_arm(work: &mut Work, done: Result<(), NoMemory>, miss: Miss) -> Result<(), NoMemory>
     ensures done { OnOk result (IsOk done) }
     ensures ends { OnOk result (EndsArm (front work.old) (front work.new) miss.low miss.high) }

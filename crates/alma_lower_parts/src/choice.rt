@@ -12,7 +12,8 @@ use alma_base::NoMemory;
 use alma_code::{Instr, SlotKind};
 use alma_lower_work::Work;
 
-/// The front of a phrase of which the first alternative is taken: its mark, and the choice that is to be aimed.
+/// The front of a phrase of which the first alternative is taken: its mark, and the choice that is
+/// to be aimed.
 #[tactic(auto, unfolding(alma_lower_work::specs::Front::front))]
 pub fn begin_first(work: &mut Work, line: u32) -> Result<(u32, u32), NoMemory>
     ensures mark { IfOk result (λ r. r.0 ≡ (front work.old).next) }
@@ -34,7 +35,8 @@ pub fn begin_forall(work: &mut Work, line: u32) -> Result<(u32, u32), NoMemory>
     work.emit.begin_forall(line)
 }
 
-/// What goes between the parts of FORALL: the mark of the body, and the overlay that is to be aimed.
+/// What goes between the parts of FORALL: the mark of the body, and the overlay that is to be
+/// aimed.
 #[tactic(auto, unfolding(alma_lower_work::specs::Front::front))]
 pub fn begin_each(work: &mut Work, line: u32, mark: u32) -> Result<(u32, u32), NoMemory>
     ensures mark { IfOk result (λ r. r.0 ≡ (front work.old).next) }
@@ -113,7 +115,8 @@ pub fn begin_commit(work: &mut Work, line: u32) -> Result<u32, NoMemory>
     Ok(mark)
 }
 
-/// Behind an operand of OR that is not the last: no alternative of it is left, and the choice is aimed.
+/// Behind an operand of OR that is not the last: no alternative of it is left, and the choice is
+/// aimed.
 pub fn end_first(
     work: &mut Work,
     done: Result<(), NoMemory>,

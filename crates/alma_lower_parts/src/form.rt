@@ -41,7 +41,8 @@ pub fn put_set(
     work.add(line, stand.set(value))
 }
 
-/// A number for the slot of an argument, in a range: it goes straight there, or from its own slot behind its check.
+/// A number for the slot of an argument, in a range: it goes straight there, or from its own slot
+/// behind its check.
 pub fn put_number(
     work: &mut Work,
     scene: &Scene<'_>,
@@ -177,7 +178,8 @@ pub fn put_index(
     Ok(to)
 }
 
-/// The place of the root of a designator, in a slot of its own where it is not used in that of a parameter.
+/// The place of the root of a designator, in a slot of its own where it is not used in that of a
+/// parameter.
 pub fn begin_place(
     work: &mut Work,
     scene: &Scene<'_>,

@@ -10,7 +10,8 @@ use crate::case::{Labels, Miss, put_label, put_label_test};
 use alma_base::{NoMemory, Range};
 use alma_lower_work::Work;
 
-/// The labels of an arm: the code goes on where the number lies in one of them, and else by the jumps of the last.
+/// The labels of an arm: the code goes on where the number lies in one of them, and else by the
+/// jumps of the last.
 pub fn put_labels(
     work: &mut Work,
     line: u32,
@@ -36,7 +37,8 @@ pub fn put_labels(
     put_label_test(work, line, labels, ranges[last])
 }
 
-// The address behind labels that stand at an address, of which there is one: each but the last ends with a jump.
+// The address behind labels that stand at an address, of which there is one: each but the last ends
+// with a jump.
 fn behind_labels(at: u32, ranges: &[Range]) -> Result<u32, NoMemory>
     ensures { 0 < length ranges.now → IfOk result (λ hit. hit ≡ behind_all at ranges.now) }
 {

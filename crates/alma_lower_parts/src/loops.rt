@@ -16,7 +16,8 @@ use alma_code::{Instr, SlotKind};
 use alma_ir::{Desig, Loop};
 use alma_lower_work::{Scene, Work, own_stand, put_fit};
 
-/// The slots of a loop: of its count, its limit and its step, and that of its first count, with the number of a constant.
+/// The slots of a loop: of its count, its limit and its step, and that of its first count, with the
+/// number of a constant.
 #[derive(Clone, Copy)]
 pub struct Bounds {
     pub counter: u32,
@@ -75,8 +76,9 @@ pub fn put_bounds(work: &mut Work, line: u32, by: i64, bounds: Bounds) -> Result
     work.add(line, entry_instr(by, first, counter, limit))
 }
 
-/// The count of a turn, checked against the range of the variable; its slot. A variable that is set in its own slot has it
-/// in that of the counter, any other in a slot of the turn's own, since the code that locates it stands between.
+/// The count of a turn, checked against the range of the variable; its slot. A variable that is set
+/// in its own slot has it in that of the counter, any other in a slot of the turn's own, since the
+/// code that locates it stands between.
 pub fn put_count(
     work: &mut Work,
     scene: &Scene<'_>,
@@ -109,7 +111,8 @@ pub fn put_count(
     Ok(count)
 }
 
-/// The end of a turn of FOR: the step, which leaves the loop after the last, and the jump to the next turn.
+/// The end of a turn of FOR: the step, which leaves the loop after the last, and the jump to the
+/// next turn.
 pub fn put_step(
     work: &mut Work,
     line: u32,
@@ -233,7 +236,8 @@ pub fn put_counts(
     })
 }
 
-/// Behind the limit of FOR; the jump where there is no turn, which is to be aimed, and the address of the first turn.
+/// Behind the limit of FOR; the jump where there is no turn, which is to be aimed, and the address
+/// of the first turn.
 pub fn begin_for(
     work: &mut Work,
     line: u32,

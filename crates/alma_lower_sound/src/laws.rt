@@ -13,13 +13,15 @@ ghost use Rattle.alma_lower_sound.specs.Reads.{program_reads};
 ghost use Rattle.alma_lower_sound.specs.Runs.{HasLongRuns};
 ghost use Rattle.alma_lower_templates.specs.CodeOf.{IsCodeOf};
 
-/// The code that the templates give for a checked program is sound, where the longest runs name its slots.
+/// The code that the templates give for a checked program is sound, where the longest runs name its
+/// slots.
 pub fn code_of_a_checked_program_is_sound()
     ensures { (p : Program) (code : PlainCode) → IsChecked p → IsCodeOf p code → HasLongRuns p code
         → 16 * nodes p ≤ size_limit → IsSound code }
 {}
 
-/// No count of it is too large for an object, where its tables hold ranges and texts of the program, each at most once.
+/// No count of it is too large for an object, where its tables hold ranges and texts of the
+/// program, each at most once.
 pub fn code_of_a_checked_program_keeps_the_counts()
     ensures { (p : Program) (code : PlainCode) → IsChecked p → IsCodeOf p code → HasLongRuns p code
         → HoldsEachOnce p code → 16 * nodes p ≤ size_limit → KeepsCounts code }

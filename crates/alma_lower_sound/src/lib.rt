@@ -1,4 +1,5 @@
-//! Laws of the code of a checked program: it is sound, and keeps the counts and records of an object.
+//! Laws of the code of a checked program: it is sound, and keeps the counts and records of an
+//! object.
 #![tactic(auto)]
 
 pub mod laws;

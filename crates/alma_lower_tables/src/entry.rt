@@ -9,7 +9,8 @@ use crate::numbers::Numbers;
 use alma_base::{NoMemory, Range};
 use std::alloc::Global;
 
-// A range by its number.
+/// Gives a range a number where it has none, one that holds all numbers of INTEGER too. It is for
+/// READ, CHR, indices and equations of numbers, whose instructions always name their range.
 pub fn add_range(numbers: &mut Numbers, range: Range) -> Result<(), NoMemory>
     ensures names { OnOk result (Names (tables_of numbers.old) (tables_of numbers.new)
         (range ∷ []) []) }
@@ -25,7 +26,8 @@ fn holds_all(range: Range) -> bool
     range.low <= i64::MIN && i64::MAX <= range.high
 }
 
-// A range that is only checked, which is not named where it holds all numbers.
+/// Gives a range that is only checked a number where it has none. One that holds all numbers of
+/// INTEGER gets none, since no code is put for a check against it.
 pub fn add_checked(numbers: &mut Numbers, range: Range) -> Result<(), NoMemory>
     ensures names { OnOk result (Names (tables_of numbers.old) (tables_of numbers.new)
         (check_range range) []) }
@@ -36,7 +38,8 @@ pub fn add_checked(numbers: &mut Numbers, range: Range) -> Result<(), NoMemory>
     add_range(numbers, range)
 }
 
-// A text.
+/// Gives the text of a WRITE a number where it has none; texts of the same bytes share one. The
+/// table keeps a copy.
 pub fn add_text(alloc: Global, numbers: &mut Numbers, text: &[u8]) -> Result<(), NoMemory>
     ensures names { OnOk result (Names (tables_of numbers.old) (tables_of numbers.new) []
         (text.now ∷ [])) }
@@ -44,7 +47,8 @@ pub fn add_text(alloc: Global, numbers: &mut Numbers, text: &[u8]) -> Result<(),
     numbers.add_text(alloc, text)
 }
 
-// A number is one of INTEGER, by its type.
+/// Does nothing. Its contract tells of the value of a constant that it is one of INTEGER, as each
+/// i64 is.
 pub fn pass_number(value: i64)
     ensures integer { is_integer value ≡ true }
 {

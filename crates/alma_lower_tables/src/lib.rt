@@ -1,4 +1,5 @@
-//! Tables of the lowering: texts and ranges, heads of routines, and what is gathered before code is made.
+//! Tables of a code beside its instructions: the ranges and texts that are gathered before code is
+//! made, the kinds of slots and their runs, parameters, variables and lines.
 #![tactic(auto)]
 
 mod entry;

@@ -7,8 +7,8 @@ use alma_base::{NoMemory, RECORD_LIMIT, Range};
 use indexmap::IndexSet;
 use std::alloc::Global;
 
-/// The ranges and the texts of a code, each once. A number is the place of its range or text; of one that has none it is
-/// their count.
+/// The ranges and the texts of a code, each once. A number is the place of its range or text; of
+/// one that has none it is their count.
 #[derive(Drop)]
 pub struct Numbers {
     pub ranges: IndexSet<(i64, i64)>,

@@ -14,8 +14,8 @@ use alma_base::NoMemory;
 use alma_ir::{Program, Routine};
 use std::alloc::Global;
 
-/// The numbers of all ranges and texts that the code of a program names. The numbers in the program are of INTEGER, as those of each program
-/// in memory are.
+/// The numbers of all ranges and texts that the code of a program names. The numbers in the program
+/// are of INTEGER, as those of each program in memory are.
 pub fn gather(alloc: Global, program: &Program) -> Result<Numbers, NoMemory>
     ensures holds { IfOk result (λ numbers. HoldsAllOf (program_of program.now)
         (tables_of numbers)) }

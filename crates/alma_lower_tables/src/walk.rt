@@ -14,7 +14,8 @@ use std::alloc::Global;
 // The numbers of CHAR.
 const CHARS: Range = Range { low: 0, high: 255 };
 
-// Statements.
+/// Gives numbers to the ranges and texts that the code of these statements names, and that of all
+/// that stands inside them. The bodies of routines that are called are none of these.
 #[cycle(walk)]
 pub fn walk_stmts(alloc: Global, numbers: &mut Numbers, body: &[Stmt]) -> Result<(), NoMemory>
     ensures { OnOk result (AddsPhrases (tables_of numbers.old) (tables_of numbers.new)

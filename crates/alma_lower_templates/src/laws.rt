@@ -15,15 +15,16 @@ pub fn code_has_its_lines()
     ensures { HoldsAll }
 {}
 
-/// The code that the templates give for a checked program implements it: a machine on it does what the program means, each
-/// fault with the line of its statement.
+/// The code that the templates give for a checked program implements it: a machine on it does what
+/// the program means, each fault with the line of its statement.
 #[tactic(auto, using(crate::proofs::Law::code_implements))]
 pub fn code_of_a_checked_program_implements_it()
     ensures { (p : Program) (code : PlainCode) → IsChecked p → IsOfIntegers p → IsCodeOf p code
         → Implements code p }
 {}
 
-/// Where a run of this code has come to success, the variables of the module hold what the meaning of the program gives them.
+/// Where a run of this code has come to success, the variables of the module hold what the meaning
+/// of the program gives them.
 #[tactic(auto, using(crate::proofs::Law::code_keeps_values))]
 pub fn code_of_a_checked_program_keeps_its_values()
     ensures { (p : Program) (code : PlainCode) → IsChecked p → IsOfIntegers p → IsCodeOf p code
@@ -36,7 +37,8 @@ pub fn each_program_has_a_code()
     ensures { (p : Program) → (code : PlainCode) × IsCodeOf p code }
 {}
 
-/// The code that the templates give for a checked program has at most 16 instructions for each node of the program.
+/// The code that the templates give for a checked program has at most 16 instructions for each node
+/// of the program.
 #[tactic(auto, using(crate::proofs::Sizes::code_is_short))]
 pub fn code_of_a_checked_program_is_short()
     ensures { (p : Program) (code : PlainCode) → IsChecked p → IsCodeOf p code → length code.instrs

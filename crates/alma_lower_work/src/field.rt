@@ -6,8 +6,8 @@ ghost use Rattle.alma_lower_templates.specs.Slots.{fields_from, is_given};
 use alma_base::NoMemory;
 use alma_ir::Sel;
 
-// The first slot of the part that selectors name in what stands from a slot on, where each of them is a field. Past 32
-// bits this is NoMemory.
+// The first slot of the part that selectors name in what stands from a slot on, where each of them
+// is a field. Past 32 bits this is NoMemory.
 pub(crate) fn field_slot(from: u32, sels: &[Sel]) -> Result<Option<u32>, NoMemory>
     ensures { IfOk result (λ o. o ≡ fields_from from (sels_list sels.now)) }
 {

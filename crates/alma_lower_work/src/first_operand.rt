@@ -24,8 +24,8 @@ pub struct FirstOperand {
     pub to: u32,
 }
 
-/// How a first operand is taken: at once, as by a sign; behind the next operand; or by no instruction, so that it stands in
-/// the slot of the value.
+/// How a first operand is taken: at once, as by a sign; behind the next operand; or by no
+/// instruction, so that it stands in the slot of the value.
 #[derive(Clone, Copy)]
 pub enum Taken<'e> {
     AtOnce,

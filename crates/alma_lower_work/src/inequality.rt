@@ -34,7 +34,8 @@ pub fn unequal(expr: &Expr) -> Option<(&Expr, &Expr)>
     }
 }
 
-/// The end of such a test, behind both numbers: it fails where they are equal, and else goes over the failure.
+/// The end of such a test, behind both numbers: it fails where they are equal, and else goes over
+/// the failure.
 pub fn put_unequal(
     work: &mut Work,
     line: u32,

@@ -1,4 +1,5 @@
-//! The work of the emitter: code in the making, the scene of a routine, and the single instructions of values and places.
+//! The work of the emitter: code in the making, the scene of a routine, and the single instructions
+//! of values and places.
 #![tactic(auto)]
 
 mod field;

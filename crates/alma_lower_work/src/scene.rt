@@ -20,7 +20,8 @@ pub struct Scene<'p> {
 }
 
 impl<'p> Scene<'p> {
-    /// How many slots stand before the own slots of a routine: 1 for the link of one of level 2 or more.
+    /// How many slots stand before the own slots of a routine: 1 for the link of one of level 2 or
+    /// more.
     #[tactic(auto, unfolding(crate::specs::Front::around))]
     pub fn shift(&self, routine: u32) -> u32
         ensures shift { result ≡ shift_of (around self.now).program routine }

@@ -1,4 +1,5 @@
-// Conditions that are tested by a jump: the value of an expression without a call and without a truth.
+// Conditions that are tested by a jump: the value of an expression without a call and without a
+// truth.
 ghost use Rattle.std.specs.Prelude.{◌≡◌};
 ghost use Rattle.alma_ir.specs.View.{expr_of, links_list, sel_of, sels_list};
 ghost use Rattle.alma_lower_templates.specs.Slots.{is_simple_expr, are_simple_links, are_simple_sels, is_simple_sel};

@@ -12,7 +12,8 @@ use alma_base::NoMemory;
 use alma_code::Instr;
 use alma_ir::{Desig, Expr, Root};
 
-/// Where a variable stands that is read or written: in a slot of its own, or where the place in a slot says.
+/// Where a variable stands that is read or written: in a slot of its own, or where the place in a
+/// slot says.
 #[derive(Clone, Copy)]
 pub enum Stand {
     Own(u32),

@@ -27,8 +27,8 @@ pub fn ends_alone(expr: &Expr) -> bool
     }
 }
 
-/// Whether a value of a range may go straight to a slot: all numbers are in the range, and the last instruction of the
-/// value alone puts it.
+/// Whether a value of a range may go straight to a slot: all numbers are in the range, and the last
+/// instruction of the value alone puts it.
 pub fn is_straight(expr: &Expr, range: Range) -> bool
     ensures { result ≡ slots.is_straight (expr_of expr.now) range }
 {

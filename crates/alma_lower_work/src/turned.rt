@@ -1,4 +1,5 @@
-// Conditions that WHILE tests behind its body: simple comparisons whose opposite is one instruction too.
+// Conditions that WHILE tests behind its body: simple comparisons whose opposite is one instruction
+// too.
 ghost use Rattle.std.specs.Prelude.{◌≡◌, ◌∷◌, [], false, MatchOption, OnOk};
 ghost use Rattle.alma_code.specs.declared.instr.Instr.TheVariants as instr;
 ghost use Rattle.alma_ir.specs.Tree.{Compare, Value};
@@ -90,7 +91,8 @@ fn has_opposite(how: Cmp) -> bool
     }
 }
 
-/// The end of such a condition, behind both numbers: it goes back to `top` while the comparison holds.
+/// The end of such a condition, behind both numbers: it goes back to `top` while the comparison
+/// holds.
 pub fn put_back(
     work: &mut Work,
     line: u32,

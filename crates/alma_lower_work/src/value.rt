@@ -151,7 +151,8 @@ pub fn put_result_fit(
     }
 }
 
-/// A condition as a number, behind the jump where it has no alternative, which is aimed at the last instruction.
+/// A condition as a number, behind the jump where it has no alternative, which is aimed at the last
+/// instruction.
 pub fn put_truth(work: &mut Work, line: u32, to: u32) -> Result<(), NoMemory>
     ensures { OnOk result (Codes (front work.old) (front work.new)
         (pieces.truth_code line to (length (front work.old).code))) }

@@ -11,7 +11,8 @@ use alma_base::NoMemory;
 use alma_choice::Emit;
 use alma_code::{Instr, SlotKind};
 
-/// What is emitted so far, and the lines of the statements of the routine in hand, of which so many are handed out.
+/// What is emitted so far, and the lines of the statements of the routine in hand, of which so many
+/// are handed out.
 #[derive(Drop)]
 pub struct Work {
     pub emit: Emit,

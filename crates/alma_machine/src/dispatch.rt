@@ -49,7 +49,8 @@ pub(crate) fn computed<M: MachineMemory>(
     }
 }
 
-/// What an instruction does, with the address already at the next one. Where memory is wanted, nothing has happened.
+/// What an instruction does, with the address already at the next one. Where memory is wanted,
+/// nothing has happened.
 #[tactic(auto, unfolding(alma_code::specs::Machine::act, crate::specs::Needs::Needs), using(crate::proofs::Acting::actings))]
 pub fn act<M: MachineMemory, V: CodeView>(
     registers: &mut Registers<M>,

@@ -95,7 +95,8 @@ fn take<M: MachineMemory, V: CodeView>(
     step
 }
 
-/// One step of a machine over any memory; `printed` is what it printed. Where memory is wanted, nothing has happened.
+/// One step of a machine over any memory; `printed` is what it printed. Where memory is wanted,
+/// nothing has happened.
 #[tactic(auto, using(crate::proofs::Stepping::steps))]
 pub fn advance<M: MachineMemory, V: CodeView>(
     view: &V,
@@ -383,12 +384,14 @@ impl<'b, 'i> Machine<'b, 'i> {
         self.registers.fails
     }
 
-    /// Steps until the run ends, and at most `budget` of them. Each print is written as it comes, in one call.
+    /// Steps until the run ends, and at most `budget` of them. Each print is written as it comes,
+    /// in one call.
     pub fn run<K: Sink>(&mut self, budget: u64, out: &mut K) -> RunEnd
         requires running { IsTrue self.old.running }
         requires few { self.old.state.steps + budget < 2 ^ 63 }
 
-        // Without a fault of the sink and a want of memory: what the copying code machine does in so many steps.
+        // Without a fault of the sink and a want of memory: what the copying code machine does in
+        // so many steps.
         ensures answer { OnWhole result (result
             ≡ run_end_of (after self.old.code self.old.input budget self.old.state).mode) }
         ensures state { OnWhole result (self.new.state

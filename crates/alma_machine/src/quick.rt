@@ -1,5 +1,5 @@
-// Steps that are made at once, one after another: those of instructions that come often, with nothing to tell. The first
-// step that is another is left to the whole machine.
+// Steps that are made at once, one after another: those of instructions that come often, with
+// nothing to tell. The first step that is another is left to the whole machine.
 ghost use Rattle.std.specs.Prelude.{◌≡◌, ◌+◌, ◌^◌, ◌<◌, ◌≤◌, []};
 ghost use Rattle.alma_code.specs.Machine.{Going, step, after, prints};
 ghost use Rattle.alma_machine.specs.Quick.{StepsQuickly};

@@ -1,5 +1,5 @@
-// Instructions that are made at once: those that come often, with nothing to tell. Where a step would be another, or memory
-// is wanted, nothing happens, and it is left to `act`.
+// Instructions that are made at once: those that come often, with nothing to tell. Where a step
+// would be another, or memory is wanted, nothing happens, and it is left to `act`.
 ghost use Rattle.std.specs.Prelude.{◌≡◌};
 ghost use Rattle.alma_base.specs.Choice.{if_true};
 ghost use Rattle.alma_base.specs.Numbers.{is_zero};

@@ -99,7 +99,8 @@ fn called_to<V: CodeView>(view: &V, at: u32) -> u32
     view.record(at).third()
 }
 
-// Leaves the top frame and puts a number into the slot of the caller, where both can be noted without more memory.
+// Leaves the top frame and puts a number into the slot of the caller, where both can be noted
+// without more memory.
 #[inline(always)]
 #[tactic(auto, using(alma_machine_acts::proofs::Back::backs))]
 fn give_back_quickly<V: CodeView>(registers: &mut Registers<Memory>, view: &V, number: i64) -> bool

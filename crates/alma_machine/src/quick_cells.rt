@@ -150,7 +150,8 @@ fn unify_quickly(
     equate_quickly(registers, one, first, other, second)
 }
 
-/// What a store, a binding or an equation does, if it ends in no fault and what it looks at is known.
+/// What a store, a binding or an equation does, if it ends in no fault and what it looks at is
+/// known.
 #[inline(always)]
 #[tactic(auto, unfolding(alma_code::specs::Machine::act, crate::specs::Needs::Needs), using(crate::proofs::Acting::actings))]
 pub(crate) fn cell_quickly<V: CodeView>(

@@ -1,5 +1,5 @@
-// Instructions that are made at once, by the opcode of their record. Where a step would be another, or end the run, or memory
-// is wanted, nothing happens, and it is left to `act`.
+// Instructions that are made at once, by the opcode of their record. Where a step would be another,
+// or end the run, or memory is wanted, nothing happens, and it is left to `act`.
 ghost use Rattle.std.specs.Prelude.{◌+◌, ◌<◌, ◌^◌};
 ghost use Rattle.alma_code.specs.Machine.{act};
 ghost use Rattle.alma_machine.specs.Needs.{Needs};
@@ -15,8 +15,8 @@ use alma_machine_acts::{CodeView, Registers};
 use alma_memory::Memory;
 use alma_object::InstrRecord;
 
-/// What the instruction of a record does, with the address already at the next one, if it is one that is made at once.
-/// Of the record only the opcode is read, and the words that the form uses.
+/// What the instruction of a record does, with the address already at the next one, if it is one
+/// that is made at once. Of the record only the opcode is read, and the words that the form uses.
 #[inline(always)]
 pub(crate) fn act_quickly<V: CodeView>(
     registers: &mut Registers<Memory>,

@@ -32,8 +32,8 @@ fn argument<M: MachineMemory>(memory: &M, param: CodeParam, slot: u32) -> Result
     }
 }
 
-/// The arguments of all parameters, in the slots from the first on, in place of those of an earlier call; or the fault of
-/// the first that is not known.
+/// The arguments of all parameters, in the slots from the first on, in place of those of an earlier
+/// call; or the fault of the first that is not known.
 #[inline(always)]
 pub fn arguments<M: MachineMemory, H: Head>(
     memory: &M,
@@ -56,7 +56,8 @@ pub fn arguments<M: MachineMemory, H: Head>(
     Ok(None)
 }
 
-// Enters a routine with the arguments that were read, or ends the run where there is no room for its frame.
+// Enters a routine with the arguments that were read, or ends the run where there is no room for
+// its frame.
 #[tactic(auto, using(crate::proofs::Given::enters))]
 fn enter<M: MachineMemory, H: Head>(
     registers: &mut Registers<M>,

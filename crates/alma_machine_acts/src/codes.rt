@@ -73,8 +73,8 @@ impl<'b> CodeView for Verified<'b> {
         self.view().text(i)
     }
 
-    // The machine's loop keeps its view in registers of the processor, as long as nothing that is called knows where it is:
-    // so a copy is looked at.
+    // The machine's loop keeps its view in registers of the processor, as long as nothing that is
+    // called knows where it is: so a copy is looked at.
     #[inline(always)]
     fn routine(&self, i: u32) -> Option<RoutineView<'b>> {
         let view = *self.view();

@@ -1,6 +1,5 @@
-// Equations of cells, one after another, and copies of cells.
+// Equations of two cells, and of the cells of two places, one after another.
 ghost use Rattle.std.specs.Prelude.{◌≡◌, ◌+◌, ◌<◌, ◌≤◌, Some, None, IfOk, OnErr, IsOk};
-ghost use Rattle.alma_code.specs.declared.cell.Cell.TheVariants as cell;
 ghost use Rattle.alma_code.specs.Machine.{place, equation_of_contents, equation, equations, quiet_step};
 ghost use Rattle.alma_machine_acts.specs.Acts.{Acts, Makes};
 ghost use Rattle.alma_machine_acts.specs.Rows.{state_of, HasCells, HasOneCell, HasNumberIn, KeepsNumbers, width, AreNumbers};
@@ -9,7 +8,7 @@ ghost use Rattle.alma_machine_acts.specs.Meets.{Meets, MeetsOn, give_number};
 use crate::places::Spot;
 use crate::registers::Registers;
 use alma_base::{NoMemory, Range, RunFault};
-use alma_code::{Cell, CellPlace, End, Step};
+use alma_code::{Cell, End, Step};
 use alma_memory::MachineMemory;
 
 /// How an equation ends.

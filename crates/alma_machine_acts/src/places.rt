@@ -109,7 +109,8 @@ impl<M: MachineMemory> Registers<M> {
         })
     }
 
-    /// Where the part of a place begins that the number in a slot names, where the parts are those of a range.
+    /// Where the part of a place begins that the number in a slot names, where the parts are those
+    /// of a range.
     #[inline(always)]
     #[tactic(auto, using(crate::proofs::Parts::fits_word, crate::proofs::Parts::width_is))]
     pub fn part(&self, to: u32, from: u32, index: u32, range: &Range) -> Result<Spot, RunFault>

@@ -17,8 +17,9 @@ pub enum Mode {
     Ended(End),
 }
 
-/// The state of a run: the next address, that of the last instruction taken, the mode, the memory and the counts; and the
-/// arguments of the last call, so that no call asks for room that an earlier one had.
+/// The state of a run: the next address, that of the last instruction taken, the mode, the memory
+/// and the counts; and the arguments of the last call, so that no call asks for room that an
+/// earlier one had.
 #[derive(Drop)]
 pub struct Registers<M: MachineMemory> {
     pub alloc: Global,

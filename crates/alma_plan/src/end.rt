@@ -2,7 +2,8 @@
 use crate::stop::Stop;
 use alma_code::End;
 
-/// How the run of a program ends, or the storing of its object, but for what becomes of its text on err.
+/// How the run of a program ends, or the storing of its object, but for what becomes of its text on
+/// err.
 #[derive(Clone, Copy)]
 pub enum ProgramEnd {
     /// The run ended, at this line of the source; 0 where none is known.

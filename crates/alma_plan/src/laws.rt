@@ -10,7 +10,8 @@ ghost use Rattle.alma_plan.specs.Programs.{Last, Runs, sense};
 ghost use Rattle.alma_plan.specs.Undisturbed.{ShowsDue};
 ghost use Rattle.alma_source.specs.Verdict.{Verdict};
 
-/// What is due from a run of a program is what its meaning says: its prints and its end, or a front of them where the steps ran out.
+/// What is due from a run of a program is what its meaning says: its prints and its end, or a front
+/// of them where the steps ran out.
 pub fn a_run_is_what_its_program_means()
     ensures means { (program : List ℕ) (failed : Ending) (p : Program) (input : List ℕ)
         (steps : ℕ) (due : Due) → length input ≤ input_limit
@@ -18,8 +19,8 @@ pub fn a_run_is_what_its_program_means()
         → IsMeant program failed p input steps due }
 {}
 
-/// A call in which nothing fails, and whose files are there, shows what its plan may come to: one of a plan that judges sources, and
-/// one of a plan that judges none.
+/// A call in which nothing fails, and whose files are there, shows what its plan may come to: one
+/// of a plan that judges sources, and one of a plan that judges none.
 pub fn an_undisturbed_call_shows_what_is_due()
     ensures shown { (program : List ℕ) (failed : Ending) (plan : Plan Verdict Last)
         (before after : Outside) (status : ℕ)

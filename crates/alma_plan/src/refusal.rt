@@ -85,7 +85,8 @@ fn refuse_code<E: Sink>(err: &mut E, program: &[u8], fault: VerifyFault) -> Stat
     report(err, 9, &[program, front, rule, middle, at, end])
 }
 
-/// Says a line on err in the name of a program: this status, or that of a write fault where err fails.
+/// Says a line on err in the name of a program: this status, or that of a write fault where err
+/// fails.
 pub fn refuse_with<'t, E: Sink>(
     err: &mut E,
     program: &'t [u8],
@@ -100,8 +101,8 @@ pub fn refuse_with<'t, E: Sink>(
     report(err, status, &[program, front, text, end])
 }
 
-/// Says on err, in the name of a program, why a call is refused: the status of that, or that of a write fault where err
-/// fails.
+/// Says on err, in the name of a program, why a call is refused: the status of that, or that of a
+/// write fault where err fails.
 pub fn refuse<E: Sink>(err: &mut E, program: &[u8], refusal: Refusal) -> Status
     ensures { Reports (refusal_end program.now refusal) (E.side err.old) (E.side err.new) result.0 }
 {

@@ -118,8 +118,8 @@ fn run_code<I: Source, O: Sink>(
     }
 }
 
-/// Compiles a program and runs its object for at most so many steps. Where it reads, the whole input is read before the
-/// first step; else the input is left.
+/// Compiles a program and runs its object for at most so many steps. Where it reads, the whole
+/// input is read before the first step; else the input is left.
 pub fn run_program<I: Source, O: Sink>(
     alloc: Global,
     program: &Program,

@@ -36,8 +36,8 @@ impl From<UnitError> for FileStop {
     }
 }
 
-/// Says on err, in the name of a program, why a call ends at a file: the status of that, or that of a write fault where
-/// err fails.
+/// Says on err, in the name of a program, why a call ends at a file: the status of that, or that of
+/// a write fault where err fails.
 pub fn tell_file<E: Sink>(err: &mut E, program: &[u8], file: &[u8], stop: FileStop) -> Status
     ensures { Reports (file_end program.now file.now stop) (E.side err.old) (E.side err.new)
         result.0 }

@@ -59,8 +59,8 @@ fn tell_size<E: Sink>(err: &mut E, program: &[u8], size: u64) -> Status
     report(err, 11, &[program, front, number, end])
 }
 
-/// Says on err, in the name of a program, how the run of another ended, where one that failed ends with this status and
-/// without a word: the status, or that of a write fault where err fails.
+/// Says on err, in the name of a program, how the run of another ended, where one that failed ends
+/// with this status and without a word: the status, or that of a write fault where err fails.
 pub fn tell_program<E: Sink>(err: &mut E, program: &[u8], failed: u8, end: ProgramEnd) -> Status
     ensures { Reports (program_end program.now (ending_of failed []) end) (E.side err.old)
         (E.side err.new) result.0 }
@@ -99,7 +99,8 @@ fn tell_refusal_named<'t, E: Sink>(
     )
 }
 
-/// Says on err for which fault a file is refused, and where: status 3, or that of a write fault where err fails.
+/// Says on err for which fault a file is refused, and where: status 3, or that of a write fault
+/// where err fails.
 pub fn tell_refusal<E: Sink>(err: &mut E, file: &[u8], fault: SourceFault, place: Place) -> Status
     ensures { Reports (refuse_source file.now fault place)
         (E.side err.old) (E.side err.new) result.0 }

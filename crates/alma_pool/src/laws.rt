@@ -1,4 +1,5 @@
-//! Laws of the definitions that the contracts cite: functions without work, whose contracts are the laws.
+//! Laws of the definitions that the contracts cite: functions without work, whose contracts are the
+//! laws.
 ghost use Rattle.std.specs.Prelude.{◌≡◌, ◌⊎◌, List, ℕ, ◌∷◌};
 ghost use Rattle.alma_ir.specs.Tree.{Program};
 ghost use Rattle.alma_plan.specs.Causes.{Causes};
@@ -10,15 +11,15 @@ ghost use Rattle.alma_pool.specs.Laws.{RunAlone, PrintsFront};
 ghost use Rattle.alma_pool.specs.Shown.{PlaysPrograms, ShowsPrograms};
 ghost use Rattle.alma_pool.specs.Words.{AsksToPlay, IsRequest};
 
-/// Each program of a pool runs as if it were alone, whatever turns the others take, and has printed a front of what it prints
-/// alone.
+/// Each program of a pool runs as if it were alone, whatever turns the others take, and has printed
+/// a front of what it prints alone.
 pub fn programs_run_alone()
     ensures alone { RunAlone }
     ensures front { PrintsFront }
 {}
 
-/// Words name a file of turns and from 1 to 16 objects, and the plan goes by these; or one is the first that cannot stand where it is, or
-/// they end too early, and the plan tells that.
+/// Words name a file of turns and from 1 to 16 objects, and the plan goes by these; or one is the
+/// first that cannot stand where it is, or they end too early, and the plan tells that.
 pub fn words_are_a_request_or_have_a_bad_word()
     ensures request { (words files : List (List ℕ)) (file : List ℕ) → AsksToPlay words file files
         → pool_plan words ≡ fetch_plan (file ∷ files) }
@@ -28,8 +29,9 @@ pub fn words_are_a_request_or_have_a_bad_word()
         ⊎ ((k : ℕ) × IsBadWord IsRequest words k) }
 {}
 
-/// A call that gives turns to programs whose objects `alma compile` stored, where memory is found and nothing fails outside, shows of each
-/// what its meaning prints on the input and how it ends, or a front of that where it has too few turns.
+/// A call that gives turns to programs whose objects `alma compile` stored, where memory is found
+/// and nothing fails outside, shows of each what its meaning prints on the input and how it ends,
+/// or a front of that where it has too few turns.
 pub fn a_pool_shows_what_its_programs_mean()
     ensures shown { (words : List (List ℕ)) (turns : List ℕ) (programs : List Program)
         (input : List ℕ) (before after : Outside) (status : ℕ)

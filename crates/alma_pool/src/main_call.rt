@@ -39,14 +39,15 @@ fn tell<E: Sink>(err: &mut E, end: PoolEnd) -> Status
     }
 }
 
-/// All that the program does: it fetches a file of turns and the objects that the words name behind it, gives the programs
-/// their turns, each step by step on an input of its own, and prints for each how far it came, and its output. `words` are
-/// those behind the program's name.
+/// All that the program does: it fetches a file of turns and the objects that the words name behind
+/// it, gives the programs their turns, each step by step on an input of its own, and prints for
+/// each how far it came, and its output. `words` are those behind the program's name.
 ///
-/// The status is 0 where all turns were made, 2 for a bad word, 6 for a read fault, 7 for a write fault, 8 for want of memory, 9
-/// for bytes that are no object and for code that is not sound, 10 for a file of turns of more than 16,777,216 bytes, an
-/// object of more than 268,435,456 or an input of more than 16,777,216, and 13 for a byte that may not stand in the file of
-/// turns. The input is read only where one of the codes reads.
+/// The status is 0 where all turns were made, 2 for a bad word, 6 for a read fault, 7 for a write
+/// fault, 8 for want of memory, 9 for bytes that are no object and for code that is not sound, 10
+/// for a file of turns of more than 16,777,216 bytes, an object of more than 268,435,456 or an
+/// input of more than 16,777,216, and 13 for a byte that may not stand in the file of turns. The
+/// input is read only where one of the codes reads.
 pub fn pool_main<F: Files, I: Source, O: Sink, E: Sink>(
     alloc: Global,
     words: &[String],

@@ -143,7 +143,8 @@ fn play_objects<I: Source, O: Sink>(
     }
 }
 
-/// All files are there: the turns are made, unless one of them may not stand there, or an object is refused.
+/// All files are there: the turns are made, unless one of them may not stand there, or an object is
+/// refused.
 pub fn judge<I: Source, O: Sink>(
     alloc: Global,
     turns: &[u8],

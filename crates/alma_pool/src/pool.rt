@@ -76,8 +76,8 @@ impl<'b, 'i> Pool<'b, 'i> {
         }
     }
 
-    /// Adds a program, and answers its number. Where memory is wanted, the pool is as before. The input has at most 16,777,216
-    /// bytes.
+    /// Adds a program, and answers its number. Where memory is wanted, the pool is as before. The
+    /// input has at most 16,777,216 bytes.
     pub fn add(&mut self, code: Verified<'b>, input: &'i [u8]) -> Result<usize, NoMemory>
         requires lawful { length input.now ≤ input_limit }
         ensures number { IfOk result (λ k. k ≡ length self.old.programs) }
@@ -111,8 +111,8 @@ impl<'b, 'i> Pool<'b, 'i> {
         self.whole
     }
 
-    /// One step of the program of a number, and nothing where that has ended. After a refused turn the pool is not whole, and that
-    /// program may stand anywhere.
+    /// One step of the program of a number, and nothing where that has ended. After a refused turn
+    /// the pool is not whole, and that program may stand anywhere.
     pub fn turn(&mut self, k: usize) -> Result<(), NoMemory>
         requires whole { IsTrue self.old.whole }
         requires there { k < length self.old.programs }

@@ -49,7 +49,8 @@ fn serve_objects<F: Files, I: Source, O: Sink>(
     }
 }
 
-// The first word, from 1, that cannot stand where it is, or one more than there are, behind so many.
+// The first word, from 1, that cannot stand where it is, or one more than there are, behind so
+// many.
 fn bad_word(seen: usize, words: &[String]) -> Option<usize>
     requires { seen ≤ 1 + greatest_programs }
     ensures { result ≡ bad_word_behind seen (texts words.now) }
@@ -90,7 +91,8 @@ fn serve<F: Files, I: Source, O: Sink>(
     }
 }
 
-/// Does what the words ask: the end that it comes to, with all its bytes on `out` where none failed.
+/// Does what the words ask: the end that it comes to, with all its bytes on `out` where none
+/// failed.
 pub fn perform<F: Files, I: Source, O: Sink>(
     alloc: Global,
     words: &[String],

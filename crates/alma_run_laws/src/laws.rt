@@ -13,8 +13,8 @@ ghost use Rattle.alma_mean.specs.Meaning.{ev_program, result as meant_at};
 ghost use Rattle.alma_run_laws.specs.Shown.{Shows, shown_end};
 ghost use Rattle.alma_run_laws.specs.Variables.{IsMeantWord, variable_word};
 
-/// What so many steps of code print that implements a program, and where they come to, is what the program means: its result, or a
-/// front of its prints that covers one visit for each 32 steps.
+/// What so many steps of code print that implements a program, and where they come to, is what the
+/// program means: its result, or a front of its prints that covers one visit for each 32 steps.
 pub fn a_run_is_what_its_program_means()
     ensures shows { (code : PlainCode) (p : Program) (input : List ℕ) (steps : ℕ)
         → Implements code p → length input ≤ input_limit
@@ -23,7 +23,8 @@ pub fn a_run_is_what_its_program_means()
         (line_in code (state_after code input steps))) }
 {}
 
-/// Where the meaning comes to its end at some level, 32 steps for each of its visits, and 32 more, are enough for its result.
+/// Where the meaning comes to its end at some level, 32 steps for each of its visits, and 32 more,
+/// are enough for its result.
 pub fn enough_steps_show_the_result()
     ensures result { (p : Program) (input : List ℕ) (steps : ℕ) (printed : List ℕ) (end : End)
         (level : ℕ) → Shows p input steps printed end
@@ -40,7 +41,8 @@ pub fn code_that_reads_nothing_runs_alike()
         → printed_by code one steps ≡ printed_by code other steps }
 {}
 
-/// Where a run has come to success, a variable of the module shows what it holds in the store of the first alternative of the meaning.
+/// Where a run has come to success, a variable of the module shows what it holds in the store of
+/// the first alternative of the meaning.
 pub fn variables_hold_what_is_meant()
     ensures word { (code : PlainCode) (p : Program) (input : List ℕ) (steps : ℕ) (name : List ℕ)
         → KeepsValues code p → length input ≤ input_limit

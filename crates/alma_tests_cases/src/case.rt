@@ -102,7 +102,8 @@ fn has_err(alloc: Global, case: &Value, err: &[u8]) -> Result<bool, CaseError> {
     }
 }
 
-// Whether each file of `behind` has the bytes that it must have behind the call, or is not there where it says null.
+// Whether each file of `behind` has the bytes that it must have behind the call, or is not there
+// where it says null.
 fn has_files(alloc: Global, case: &Value, files: &MemFiles) -> Result<bool, CaseError> {
     if case.get("behind").is_none() {
         return Ok(true);

@@ -15,7 +15,8 @@ pub struct Example {
     pub wanted: Vec<u8>,
 }
 
-/// The example of this name: its input lies in `NAME.in`, and is empty where there is none; what it must print, in `NAME.out`.
+/// The example of this name: its input lies in `NAME.in`, and is empty where there is none; what it
+/// must print, in `NAME.out`.
 pub fn read_example<F: Files>(
     alloc: Global,
     files: &mut F,

@@ -1,11 +1,13 @@
-// One example: it is run on the input that lies beside it, and what it prints is compared with what it must.
+// One example: it is run on the input that lies beside it, and what it prints is compared with what
+// it must.
 use crate::example::{EXAMPLE_LIMIT, Example, read_example};
 use crate::field::CaseError;
 use alma_driver::alma;
 use alma_io::{Files, MemSink, MemSource, Sink};
 use std::alloc::Global;
 
-/// The status of the example of this name in the folder `examples`, and whether it prints what it must.
+/// The status of the example of this name in the folder `examples`, and whether it prints what it
+/// must.
 pub fn run_example<F: Files, E: Sink>(
     alloc: Global,
     files: &mut F,

@@ -1,4 +1,5 @@
-// The examples: each is run on the input that lies beside it, and what it prints is compared with what it must.
+// The examples: each is run on the input that lies beside it, and what it prints is compared with
+// what it must.
 use crate::example_run::run_example;
 use alma_io::{StdFiles, StdSink};
 use anyhow::Result;

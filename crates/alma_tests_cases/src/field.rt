@@ -61,7 +61,8 @@ pub fn number(value: &Value, name: &str) -> Result<u64, CaseError> {
     field(value, name)?.as_u64().ok_or(CaseError::Form)
 }
 
-/// The bytes of a value: a text has them in hexadecimal, a list has objects with such `bytes` and how many `times` they stand there.
+/// The bytes of a value: a text has them in hexadecimal, a list has objects with such `bytes` and
+/// how many `times` they stand there.
 pub fn bytes_of(alloc: Global, value: &Value) -> Result<Vec<u8>, CaseError> {
     match value.as_array() {
         Some(parts) => repeated(alloc, parts),

@@ -1,4 +1,5 @@
-//! Runs files of cases, which lie where it runs: each line is a call of the program with what it must answer, in JSON. Behind them it runs the examples.
+//! Runs files of cases, which lie where it runs: each line is a call of the program with what it
+//! must answer, in JSON. Behind them it runs the examples.
 #![tactic(auto)]
 
 mod call;

@@ -19,7 +19,8 @@ fn last_param<H: Head>(head: &H) -> Option<ParamKind> {
     }
 }
 
-// The slots, the declared cells, the parameters and the runs of a head; its last run and parameter; whether it has a result.
+// The slots, the declared cells, the parameters and the runs of a head; its last run and parameter;
+// whether it has a result.
 pub(crate) type Shown = ([u32; 4], Option<Run>, Option<ParamKind>, bool);
 
 // What a head shows.

@@ -347,7 +347,8 @@ fn mean_in_two(
     Ok((both, meaning(scopes, b"x", 9)))
 }
 
-// What `x` and `X` stand for in one block, where each is found as it was declared, and `X` is refused once more.
+// What `x` and `X` stand for in one block, where each is found as it was declared, and `X` is
+// refused once more.
 fn declare_cases(alloc: Global, scopes: &mut Scopes) -> Result<Meanings, DeclareError>
     requires { scopes.old ≡ first_blocks }
 {
@@ -389,7 +390,8 @@ enum Act {
     Redeclare,
     // Declares `x` and `X`, and finds both.
     Both,
-    // Declares `x` from each token on in a block of its own. Finds it at the last, and at 9 in the lower block.
+    // Declares `x` from each token on in a block of its own. Finds it at the last, and at 9 in the
+    // lower block.
     Two(u32, u32, u32),
 }
 

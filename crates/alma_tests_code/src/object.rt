@@ -31,8 +31,8 @@ pub(crate) fn with_byte(at: usize, byte: u8) -> [u8; 104]
     bytes
 }
 
-// The version of an object; how many routines, instructions and globals it has; whether the first instruction is
-// Return; whether there is a second routine, a global, a range, a text or a read.
+// The version of an object; how many routines, instructions and globals it has; whether the first
+// instruction is Return; whether there is a second routine, a global, a range, a text or a read.
 type ObjectShown = (u16, [u32; 3], bool, [bool; 5]);
 
 const NO_MORE: [bool; 5] = [false; 5];

@@ -1,4 +1,5 @@
-//! Small codes that are run and judged by computing, each in the contract of a function that does nothing.
+//! Small codes that are run and judged by computing, each in the contract of a function that does
+//! nothing.
 ghost use Rattle.std.specs.Prelude.{◌≡◌, ◌-◌, ◌^◌, true, false, pos, negsuc, [], ◌∷◌, length, take, codes, None};
 ghost use Rattle.std.specs.Fmt.{decimal, signed_decimal};
 ghost use Rattle.alma_base.specs.declared.fault.RunFault.TheVariants as fault;
@@ -25,7 +26,8 @@ pub fn least_code()
     ensures prints { Prints least [] 1 [] }
 {}
 
-/// A failing branch leaves the frames as they were when its entry was pushed. What it printed stays.
+/// A failing branch leaves the frames as they were when its entry was pushed. What it printed
+/// stays.
 #[tactic(auto, using(crate::proofs::Computed::branch_comes_back_sound, crate::proofs::Computed::branch_comes_back_restores, crate::proofs::Computed::branch_comes_back_popped, crate::proofs::Computed::branch_comes_back_ends, crate::proofs::Computed::branch_comes_back_prints))]
 pub fn branch_comes_back()
     ensures sound { code_fault branch_undone ≡ None }
@@ -36,7 +38,8 @@ pub fn branch_comes_back()
     ensures prints { Prints branch_undone [] 6 (codes "Hi" ∷ []) }
 {}
 
-/// After a cut a failure finds no entry. The pop that finds none is a step and is not counted in the pops.
+/// After a cut a failure finds no entry. The pop that finds none is a step and is not counted in
+/// the pops.
 #[tactic(auto, using(crate::proofs::Computed::cut_drops_choices_sound, crate::proofs::Computed::cut_drops_choices_cut, crate::proofs::Computed::cut_drops_choices_ends, crate::proofs::Computed::cut_drops_choices_prints, crate::proofs::Computed::cut_drops_choices_steps, crate::proofs::Computed::cut_drops_choices_choices, crate::proofs::Computed::cut_drops_choices_fails))]
 pub fn cut_drops_choices()
     ensures sound { code_fault choices_cut ≡ None }
@@ -48,7 +51,8 @@ pub fn cut_drops_choices()
     ensures fails { (state_after choices_cut [] 8).fails ≡ 0 }
 {}
 
-/// A body sees what the bodies before it kept, and the variable of the alternatives is unknown at the end.
+/// A body sees what the bodies before it kept, and the variable of the alternatives is unknown at
+/// the end.
 #[tactic(auto, using(crate::proofs::Computed::forall_carries_a_sum_sound, crate::proofs::Computed::forall_carries_a_sum_ends, crate::proofs::Computed::forall_carries_a_sum_prints, crate::proofs::Computed::forall_carries_a_sum_cells, crate::proofs::Computed::forall_carries_a_sum_choices, crate::proofs::Computed::forall_carries_a_sum_fails))]
 pub fn forall_carries_a_sum()
     ensures sound { code_fault sum_carried ≡ None }
@@ -87,7 +91,8 @@ pub fn equation_binds_right()
     ensures prints { Prints right_unknown [] 6 (decimal 5 ∷ []) }
 {}
 
-/// An equation of two unknown cells is a fault, and so is one that would put a number out of its range.
+/// An equation of two unknown cells is a fault, and so is one that would put a number out of its
+/// range.
 #[tactic(auto, using(crate::proofs::Computed::equation_faults_unknown, crate::proofs::Computed::equation_faults_range))]
 pub fn equation_faults()
     ensures unknown { Ends both_unknown [] 3 (end.Fault fault.Unknown) }
@@ -103,7 +108,8 @@ pub fn cells_are_equated()
         (decimal 1 ∷ decimal 2 ∷ decimal 1 ∷ decimal 2 ∷ []) }
 {}
 
-/// A MIX argument that is a place goes by reference, and one that is a number has a cell of its own.
+/// A MIX argument that is a place goes by reference, and one that is a number has a cell of its
+/// own.
 #[tactic(auto, using(crate::proofs::Computed::mix_takes_both_sound, crate::proofs::Computed::mix_takes_both_called, crate::proofs::Computed::mix_takes_both_returned, crate::proofs::Computed::mix_takes_both_ends, crate::proofs::Computed::mix_takes_both_prints))]
 pub fn mix_takes_both()
     ensures sound { code_fault mix_called ≡ None }
@@ -181,7 +187,8 @@ pub fn arithmetic_rounds_down()
         (decimal 0 ∷ []) }
 {}
 
-/// A result outside INTEGER is a fault, and so are a zero divisor, an index outside its range and an unknown number.
+/// A result outside INTEGER is a fault, and so are a zero divisor, an index outside its range and
+/// an unknown number.
 #[tactic(auto, using(crate::proofs::Computed::arithmetic_faults_sum, crate::proofs::Computed::arithmetic_faults_quotient, crate::proofs::Computed::arithmetic_faults_divisor, crate::proofs::Computed::arithmetic_faults_index, crate::proofs::Computed::arithmetic_faults_unknown))]
 pub fn arithmetic_faults()
     ensures sum { Ends (operation (I.Add 3 1 2) (pos (2 ^ 63 - 1)) (pos 1)) [] 3
@@ -278,7 +285,8 @@ pub fn arrays_go_by_value()
     ensures prints { Prints array_copied [] 9 (decimal 6 ∷ decimal 5 ∷ []) }
 {}
 
-/// A copy takes all cells as they were; an equation sees what the one before it wrote, and a fault leaves that.
+/// A copy takes all cells as they were; an equation sees what the one before it wrote, and a fault
+/// leaves that.
 #[tactic(auto, using(crate::proofs::Computed::cells_overlap_copy, crate::proofs::Computed::cells_overlap_equation, crate::proofs::Computed::cells_overlap_fault, crate::proofs::Computed::cells_overlap_written))]
 pub fn cells_overlap()
     ensures copy { Prints copy_overlaps [] 9 (decimal 1 ∷ decimal 1 ∷ decimal 2 ∷ []) }
@@ -321,7 +329,8 @@ pub fn range_leaves_input()
         ≡ cell.Int (pos 1) }
 {}
 
-/// Where there is no entry for them, Finish, Keep and Cut do nothing, and an Overlay pushes its Body all the same.
+/// Where there is no entry for them, Finish, Keep and Cut do nothing, and an Overlay pushes its
+/// Body all the same.
 #[tactic(auto, using(crate::proofs::Computed::nothing_to_keep_sound, crate::proofs::Computed::nothing_to_keep_finish, crate::proofs::Computed::nothing_to_keep_keep, crate::proofs::Computed::nothing_to_keep_cut, crate::proofs::Computed::nothing_to_keep_overlay))]
 pub fn nothing_to_keep()
     ensures sound { code_fault nothing_held ≡ None }
@@ -342,7 +351,8 @@ pub fn body_kept_below()
     ensures second { (entry_at (state_after kept_below [] 5).held 2).carry ≡ [] }
 {}
 
-/// The copy of a Forall has its mark slot as it was before; a pop of a Forall leaves it as a Done and answers the height before.
+/// The copy of a Forall has its mark slot as it was before; a pop of a Forall leaves it as a Done
+/// and answers the height before.
 #[tactic(auto, using(crate::proofs::Computed::forall_copies_old_mark_copy, crate::proofs::Computed::forall_copies_old_mark_now, crate::proofs::Computed::forall_copies_old_mark_popped, crate::proofs::Computed::forall_copies_old_mark_height))]
 pub fn forall_copies_old_mark()
     ensures copy { cell_at (entry_at (state_after sum_carried [] 2).held 1).frames 0 6 cell.Unknown
@@ -353,7 +363,8 @@ pub fn forall_copies_old_mark()
     ensures height { length (state_after sum_carried [] 16).held ≡ 1 }
 {}
 
-/// A place or a mark that was not set is a fault, and arguments are read before the cells are counted.
+/// A place or a mark that was not set is a fault, and arguments are read before the cells are
+/// counted.
 #[tactic(auto, using(crate::proofs::Computed::unset_words_fault_place, crate::proofs::Computed::unset_words_fault_mark, crate::proofs::Computed::unset_words_fault_argument))]
 pub fn unset_words_fault()
     ensures place { Ends (plain_main (I.Load 1 4 ∷ I.Return ∷ [])) [] 1 (end.Fault fault.Unknown) }

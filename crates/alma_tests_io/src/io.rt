@@ -1,4 +1,5 @@
-// The fakes in memory, what is read and written whole over them, and the adapters over the real system.
+// The fakes in memory, what is read and written whole over them, and the adapters over the real
+// system.
 use alma_base::NoMemory;
 use alma_io::{
     Failed, Fetch, Files, MemFiles, MemSink, MemSource, ReadAll, Sink, Source, StdFiles, StdSink,
@@ -13,7 +14,8 @@ use std::{fs, io};
 // How much of a file one call reads.
 const CHUNK: u32 = 65_536;
 
-/// A reader and writer that is interrupted at the first call, moves one byte at the second, and then fails.
+/// A reader and writer that is interrupted at the first call, moves one byte at the second, and
+/// then fails.
 #[derive(Drop)]
 struct Flaky {
     calls: u8,

@@ -37,7 +37,8 @@ const COUNT: [Instr; 13] = [
     Instr::Return,
 ];
 
-// Copies a pair onto one that overlaps it, prints two characters, a text and a line, and then counts to 2, in 24 steps.
+// Copies a pair onto one that overlaps it, prints two characters, a text and a line, and then
+// counts to 2, in 24 steps.
 const PARTS: [Instr; 21] = [
     Instr::Local { to: 10, first: 6 },
     Instr::Const { to: 1, value: 2 },
@@ -261,7 +262,8 @@ fn small(alloc: Global, instrs: &[Instr]) -> Result<Code, NoMemory>
     })
 }
 
-// Its object.
+/// The bytes of an object with one routine, a module body of these instructions with 13 slots of
+/// the kinds `KINDS`; with the range from 1 to 2 and the text `ok`, without globals and lines.
 pub fn object(alloc: Global, instrs: &[Instr]) -> Result<Vec<u8>, NoMemory>
     requires { length instrs.now ≤ 99 }
 {
@@ -269,7 +271,8 @@ pub fn object(alloc: Global, instrs: &[Instr]) -> Result<Vec<u8>, NoMemory>
     encode(alloc, &code)
 }
 
-// The verified view of an object; none where it is refused.
+/// The verified view of the bytes of an object; none where they are no object, or its code is not
+/// sound.
 pub fn opened(bytes: &[u8]) -> Option<Verified<'_>> {
     let view = ObjectView::new(bytes).ok()?;
     verify(view).ok()
@@ -283,7 +286,8 @@ fn run_on(machine: &mut Machine<'_, '_>, budget: u64, out: &mut MemSink) -> RunE
     machine.run(budget, out)
 }
 
-// How a run ends, the machine's steps, choices and fails, whether it printed what was awaited, and whether it runs on.
+// How a run ends, the machine's steps, choices and fails, whether it printed what was awaited, and
+// whether it runs on.
 type Shown = (RunEnd, [u64; 3], bool, bool);
 
 // What a run of 99 steps at most shows.
@@ -337,7 +341,8 @@ fn parts_are_copied_and_a_loop_counts(rt: HostRuntime) -> Result<(), Fail> {
     Ok(())
 }
 
-// Runs so many steps, and answers how a run of the rest of 31 ends; none where the first did not run out of steps there.
+// Runs so many steps, and answers how a run of the rest of 31 ends; none where the first did not
+// run out of steps there.
 fn run_rest(machine: &mut Machine<'_, '_>, out: &mut MemSink, budget: u64) -> Option<RunEnd>
     requires running { IsTrue machine.old.running }
     requires few { machine.old.state.steps + budget < 2 ^ 63 }
@@ -412,7 +417,8 @@ fn print_of(step: u64) -> &'static [u8] {
     }
 }
 
-// The next step of a machine that made less than 99; none where it does not run.
+/// Makes the next step of a machine and answers it; none where the machine does not run, or has
+/// made 99 steps or more.
 pub fn next_step(machine: &mut Machine<'_, '_>) -> Result<Option<Step>, NoMemory> {
     if !machine.is_running() || machine.steps() >= 99 {
         return Ok(None);
@@ -440,7 +446,8 @@ fn other_print(machine: &mut Machine<'_, '_>) -> Option<u64> {
     None
 }
 
-// The first of 31 steps that prints other than it should, whether the machine runs on, its choices and fails.
+// The first of 31 steps that prints other than it should, whether the machine runs on, its choices
+// and fails.
 type Steps = (Option<u64>, bool, u64, u64);
 
 // What 31 steps show.
@@ -465,7 +472,8 @@ fn the_print_of_the_last_step_is_there(rt: HostRuntime) -> Result<(), Fail> {
     Ok(())
 }
 
-// Binds the cell of slot 1 to 1, prints it and fails; and then binds it to 2, prints it and ends, in 14 steps.
+// Binds the cell of slot 1 to 1, prints it and fails; and then binds it to 2, prints it and ends,
+// in 14 steps.
 const TWO_WAYS: [Instr; 13] = [
     Instr::Local { to: 5, first: 1 },
     Instr::Choose { resume: 7 },

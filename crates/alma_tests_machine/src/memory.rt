@@ -129,8 +129,8 @@ const BRANCH: Resumed = Resumed {
     resume: 7,
 };
 
-// Fails after a branch wrote into the second slot. Answers what is resumed, the slot, and what a second failure
-// resumes.
+// Fails after a branch wrote into the second slot. Answers what is resumed, the slot, and what a
+// second failure resumes.
 fn fail_twice(memory: &mut Memory) -> Result<(Option<Resumed>, Cell, Option<Resumed>), NoMemory>
     requires now { memory.old.now ≡ start_frame (numbers 2) ∷ [] }
     requires held { memory.old.held ≡ [] }
@@ -165,8 +165,8 @@ fn writes_in_place(memory: &mut Memory, number: i64) -> Result<bool, NoMemory>
     Ok(memory.trail_room() == room)
 }
 
-// Writes the second slot twice behind a branch, with room for one note, and fails. Answers whether the second write
-// took no room, what is resumed, and the slot.
+// Writes the second slot twice behind a branch, with room for one note, and fails. Answers whether
+// the second write took no room, what is resumed, and the slot.
 fn write_twice(memory: &mut Memory) -> Result<(bool, Option<Resumed>, Cell), NoMemory>
     requires now { memory.old.now ≡ start_frame (numbers 2) ∷ [] }
     requires held { memory.old.held ≡ [] }
@@ -285,7 +285,8 @@ fn keep_nine(memory: &mut Memory) -> Result<(), NoMemory>
     memory.keep(1)
 }
 
-// Goes back to the branch of the range. Answers the height before, whether there was an entry, and the second slot.
+// Goes back to the branch of the range. Answers the height before, whether there was an entry, and
+// the second slot.
 fn leave_body(memory: &mut Memory) -> (usize, bool, Cell)
     requires { memory.old.held ≡ body_kept }
     ensures now { memory.new.now ≡ start_frame (numbers 2) ∷ [] }
@@ -296,8 +297,8 @@ fn leave_body(memory: &mut Memory) -> (usize, bool, Cell)
     (height, has_branch, memory.read(0, 1))
 }
 
-// Lays what the forall carries, and goes back to its end. Answers the second slot between, what is resumed, the kind of
-// the entry, and the slot then.
+// Lays what the forall carries, and goes back to its end. Answers the second slot between, what is
+// resumed, the kind of the entry, and the slot then.
 fn leave_range(
     memory: &mut Memory,
 ) -> Result<(Cell, Option<Resumed>, Option<ChoiceKind>, Cell), NoMemory>
@@ -371,8 +372,8 @@ fn keep_nothing(memory: &mut Memory) -> Result<(), NoMemory>
     memory.keep(1)
 }
 
-// Whether there was a branch, the second slot behind it, whether there was a forall, and the slot and the height in the
-// end.
+// Whether there was a branch, the second slot behind it, whether there was a forall, and the slot
+// and the height in the end.
 type Laid = (bool, Cell, bool, Cell, usize);
 
 // Goes through the rest of a forall that carries nothing.
@@ -610,7 +611,8 @@ const SLOTS: u32 = 100_000;
 
 const CHOICES: u32 = 200_000;
 
-// Makes room for so many entries and pushes them, and after each writes one of the slots from 1 on, in turn.
+// Makes room for so many entries and pushes them, and after each writes one of the slots from 1 on,
+// in turn.
 fn choose_and_write(memory: &mut Memory, slots: u32, choices: u32) -> Result<(), NoMemory>
     requires some { 2 ≤ slots }
     requires slots { KeepsSlots slots memory.old }
@@ -657,8 +659,8 @@ fn counts(memory: &Memory, slots: u32) -> (usize, u32)
     (memory.height(), count_known(memory, slots))
 }
 
-// The entries and the slots that hold a number when so many choices are made, how many are taken back, and the same
-// again.
+// The entries and the slots that hold a number when so many choices are made, how many are taken
+// back, and the same again.
 type Choices = ((usize, u32), u32, (usize, u32));
 
 // Makes so many choices, and takes them back.

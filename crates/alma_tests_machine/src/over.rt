@@ -44,7 +44,8 @@ fn body_memory<'b>(
     Memory::new(alloc, head)
 }
 
-// Whether a machine runs, the address of its last instruction, its steps, and the height of its memory.
+// Whether a machine runs, the address of its last instruction, its steps, and the height of its
+// memory.
 type Standing = (bool, u32, u64, usize);
 
 // How a machine stands.

@@ -18,7 +18,8 @@ enum Answer {
     Memory,
 }
 
-/// A module, and what its first declaration is where nothing but the names outside each module is declared.
+/// A module, and what its first declaration is where nothing but the names outside each module is
+/// declared.
 struct Row {
     source: &'static [u8],
     answer: Answer,

@@ -30,7 +30,8 @@ BEGIN
   KNOWN(x); ORD(letter) = 1; CHR(65); f()
 END Every.";
 
-/// A source, and what the parser answers: its fault and the token, or nothing where it is a program.
+/// A source, and what the parser answers: its fault and the token, or nothing where it is a
+/// program.
 struct Row {
     source: &'static [u8],
     answer: Result<(), ParseError>,

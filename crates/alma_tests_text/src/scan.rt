@@ -321,7 +321,8 @@ pub(crate) fn put_copies(
     Ok(())
 }
 
-/// A source of so many copies of a front and so many of a back, with an end, and the number of its tokens or the fault.
+/// A source of so many copies of a front and so many of a back, with an end, and the number of its
+/// tokens or the fault.
 struct Long {
     front: &'static [u8],
     back: &'static [u8],

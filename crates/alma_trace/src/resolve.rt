@@ -36,8 +36,8 @@ fn place_of(view: &ObjectView<'_>, name: &[u8]) -> Option<(u32, u32)>
     None
 }
 
-/// The watches of names, in their order: each has the place of the first global of the object with its name. It goes over the
-/// globals once for each name.
+/// The watches of names, in their order: each has the place of the first global of the object with
+/// its name. It goes over the globals once for each name.
 pub fn watches<'w>(
     alloc: Global,
     view: &ObjectView<'_>,
@@ -58,7 +58,8 @@ pub fn watches<'w>(
     Ok(watches)
 }
 
-/// Appends the value of the first global of the object with a name, as it is watched, and - where there is none.
+/// Appends the value of the first global of the object with a name, as it is watched, and - where
+/// there is none.
 pub fn push_named<M: MachineMemory>(
     line: &mut Vec<u8>,
     memory: &M,

@@ -64,9 +64,10 @@ fn tell_steps_end<K: Sink>(line: &mut Vec<u8>, out: &mut K) -> Result<(), RunEnd
     Ok(())
 }
 
-/// Steps until the run ends, and at most `budget` of them. In place of the prints it writes a line for each step that has one,
-/// with the watched values after it, and how the run ended, or that the steps ran out. Each line is written as it comes, in one
-/// call. After a fault of the sink the machine is as its last step left it.
+/// Steps until the run ends, and at most `budget` of them. In place of the prints it writes a line
+/// for each step that has one, with the watched values after it, and how the run ended, or that the
+/// steps ran out. Each line is written as it comes, in one call. After a fault of the sink the
+/// machine is as its last step left it.
 pub fn trace<K: Sink>(
     alloc: Global,
     machine: &mut Machine<'_, '_>,
@@ -78,7 +79,8 @@ pub fn trace<K: Sink>(
     requires few { machine.old.state.steps + budget < 2 ^ 63 }
     requires watched { AreOfModule machine.old.code watches.now }
 
-    // Without a fault of the sink and a want of memory: what the copying code machine does in so many steps.
+    // Without a fault of the sink and a want of memory: what the copying code machine does in so
+    // many steps.
     ensures answer { OnWhole result (result
         ≡ run_end_of (after machine.old.code machine.old.input budget machine.old.state).mode) }
     ensures state { OnWhole result (machine.new.state
@@ -97,7 +99,8 @@ pub fn trace<K: Sink>(
         (traced_within machine.old.code machine.old.input watches.now (made machine.old machine.new)
         budget machine.old.state)) }
     ensures stopped { OnWriteFault result (machine.new.running ≡ can_go machine.new.state.mode) }
-    // Memory was wanted for a step, and the machine runs no more; or for a line, and it is as its last step left it.
+    // Memory was wanted for a step, and the machine runs no more; or for a line, and it is as its
+    // last step left it.
     ensures starved { OnMemory result ((machine.new.running ≡ false)
         ⊎ (machine.new.running ≡ can_go machine.new.state.mode)) }
     ensures cause { HasCause (K.side out.old).faults (K.side out.new).faults (all_written result) }
