@@ -5,6 +5,10 @@ use Rattle.std.specs.Prelude.{ℕ}
 abbrev pub source_limit : ℕ
 source_limit = 1048576
 
+-- the greatest number of brackets that are open at once in a source
+abbrev pub depth_limit : ℕ
+depth_limit = 100
+
 -- the greatest number of cells of a type, of elements of an array, and of declared cells of a frame and of all live frames
 abbrev pub cell_limit : ℕ
 cell_limit = 1048576
@@ -20,6 +24,10 @@ size_limit = 4194304
 -- the greatest number of bytes of an input
 abbrev pub input_limit : ℕ
 input_limit = 16777216
+
+-- the greatest number of routines of a code
+abbrev pub routine_limit : ℕ
+routine_limit = 262144
 
 -- the greatest number of instructions of a code
 abbrev pub instr_limit : ℕ

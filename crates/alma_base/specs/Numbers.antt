@@ -15,6 +15,10 @@ range_size range = nat_abs (range.high -ℤ range.low) + 1
 abbrev pub whole_range : Range
 whole_range = record { low = negsuc (2 ^ 63 - 1); high = pos (2 ^ 63 - 1) }
 
+-- all numbers of CHAR
+abbrev pub char_range : Range
+char_range = record { low = pos 0; high = pos 255 }
+
 -- the number is one of INTEGER, of 64 bits with a sign
 abbrev pub is_integer : ℤ → Bool
 is_integer n = int_le (negsuc (2 ^ 63 - 1)) n && int_le n (pos (2 ^ 63 - 1))

@@ -1,6 +1,6 @@
 // The numbers of the language: ranges of them, division, and what READ finds.
 ghost use Rattle.std.specs.Prelude.{◌≡◌, ◌≢◌, ◌<ℤ◌, pos, false, MatchOption};
-ghost use Rattle.alma_base.specs.Numbers.{whole_range, is_integer, div_down_of, mod_down_of};
+ghost use Rattle.alma_base.specs.Numbers.{whole_range, char_range, is_integer, div_down_of, mod_down_of};
 
 /// The numbers from `low` to `high`. Whoever makes one keeps `low` at most `high`.
 #[derive(Clone, Copy)]
@@ -18,6 +18,13 @@ impl Range {
             low: i64::MIN,
             high: i64::MAX,
         }
+    }
+
+    /// All numbers of CHAR.
+    pub fn character() -> Range
+        ensures { result ≡ char_range }
+    {
+        Range { low: 0, high: 255 }
     }
 }
 

@@ -5,15 +5,15 @@ ghost use Rattle.alma_base.specs.Reading.{is_blank, is_digit, signed_value, ende
 
 use crate::ReadInt;
 
-/// Space, TAB, CR or LF.
-fn is_blank_byte(byte: u8) -> bool
+/// Space, TAB, CR or LF: blanks separate tokens of a source, and stand before what READ reads.
+pub fn is_blank(byte: u8) -> bool
     ensures { result ≡ is_blank byte }
 {
     matches!(byte, b' ' | b'\t' | b'\r' | b'\n')
 }
 
-/// One of 0 to 9.
-fn is_digit_byte(byte: u8) -> bool
+/// `0` to `9`: a number begins with one, and a name may go on with one.
+pub fn is_digit(byte: u8) -> bool
     ensures { result ≡ is_digit byte }
 {
     matches!(byte, b'0'..=b'9')
@@ -26,7 +26,7 @@ fn skip_blanks(input: &[u8], from: usize) -> usize
     ensures blanks { number_from input.now from ≡ sign_on result (drop result input.now) }
 {
     let mut place = from;
-    while place < input.len() && is_blank_byte(input[place]) {
+    while place < input.len() && is_blank(input[place]) {
         place += 1;
     }
     place
@@ -51,7 +51,7 @@ fn read_digits(input: &[u8], start: usize) -> Digits
 {
     let mut magnitude: u64 = 0;
     let mut end = start;
-    while end < input.len() && is_digit_byte(input[end]) {
+    while end < input.len() && is_digit(input[end]) {
         magnitude = magnitude
             .saturating_mul(10)
             .saturating_add(u64::from(input[end] - b'0'));

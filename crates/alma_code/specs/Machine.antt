@@ -478,6 +478,13 @@ run_faults =
     fault.Unknown ∷ fault.Range ∷ fault.Index ∷ fault.Overflow ∷ fault.ZeroDivide ∷ fault.NoCase
     ∷ fault.NoReturn ∷ fault.ReadRange ∷ fault.DepthFull ∷ fault.CellsFull ∷ []
 
+-- the numbers of the faults that code may name: no arm of a CASE is for a value; a function returns none
+abbrev pub no_case : ℕ
+no_case = 5
+
+abbrev pub no_return : ℕ
+no_return = 6
+
 -- ends in a fault that is there
 abbrev pub as_fault : Option RunFault → State → StepResult
 as_fault (Some f) s = ends_in_fault f s

@@ -3,7 +3,7 @@
 use Rattle.std.specs.Prelude.{◌≡◌, ◌⊎◌, ◌+◌, ◌≤◌, ℕ, Bool, true, false, not, ◌&&◌, ◌||◌, nat_eq, nat_le, int_le, List, [], ◌∷◌, sum_by}
 use Rattle.std.specs.Prelude.{length}
 use Rattle.std.specs.List.{list_all}
-use Rattle.alma_base.specs.Limits.{instr_limit, slot_limit, record_limit, pool_limit}
+use Rattle.alma_base.specs.Limits.{routine_limit, instr_limit, slot_limit, record_limit, pool_limit}
 use Rattle.alma_base.specs.Reading.{is_digit}
 use Rattle.alma_code.specs.declared.cell.SlotKind.{SlotKind}
 use Rattle.alma_code.specs.declared.cell.SlotKind.TheVariants as slot
@@ -35,7 +35,7 @@ text_count code = sum_by length code.texts
 
 -- no count is past its greatest value
 pub record KeepsCounts (code : PlainCode) : Type 0 where
-  pub routines : length code.routines ≤ 262144
+  pub routines : length code.routines ≤ routine_limit
   pub globals : length code.globals ≤ record_limit
   pub params : param_count code ≤ record_limit
   pub runs : run_count code ≤ slot_limit

@@ -23,6 +23,7 @@ use Rattle.alma_code.specs.Kinds.{is_number, is_place, is_place_of, is_mark, is_
 use Rattle.alma_code.specs.Layout.{RunsRise, hold_params}
 use Rattle.alma_code.specs.Plain.{PlainCode, PlainGlobal, head_at, start_at, end_at, kinds_at}
 use Rattle.alma_code.specs.Words.{words}
+use Rattle.alma_code.specs.Machine.{no_case, no_return}
 
 -- ---- what the tables of a code keep
 
@@ -272,7 +273,7 @@ module _ (code : PlainCode) where
   unfoldable pub rule_12 : ℕ → Instr → Bool
   rule_12 r (I.ReturnValue a) = (head_at code r).has_result
   rule_12 r I.Return = not (head_at code r).has_result
-  rule_12 r (I.Fault n) = nat_eq n 5 || nat_eq n 6
+  rule_12 r (I.Fault n) = nat_eq n no_case || nat_eq n no_return
   rule_12 r _ = true
 
 -- ---- the first broken rule

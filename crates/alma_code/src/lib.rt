@@ -12,4 +12,4 @@ pub use cell::{Cell, CellPlace, ChoiceKind, SlotKind};
 pub use code::{Code, CodeGlobal, Line, RoutineHead};
 pub use head::{CodeParam, Head, ParamKind, Run};
 pub use instr::{Instr, Word};
-pub use step::{End, Step, VerifyFault};
+pub use step::{End, NO_CASE, NO_RETURN, Step, VerifyFault};

@@ -1,6 +1,14 @@
 // What a step answers, how a run ends, and which rule a code breaks.
 use alma_base::RunFault;
 
+/// The number of the fault NoCase, among all run faults from 0 on: the word of `Instr::Fault` where
+/// no arm of a CASE is for the value.
+pub const NO_CASE: u32 = 5;
+
+/// The number of the fault NoReturn: the word of `Instr::Fault` where a function ends and has
+/// returned nothing.
+pub const NO_RETURN: u32 = 6;
+
 /// How a run ends.
 #[derive(Clone, Copy, Debug, PartialEq, Eq)]
 pub enum End {

@@ -1,5 +1,5 @@
 -- The depth passes 100 at no token before the one that is refused.
-use Rattle.std.proofs.Common.{◌≡◌, ◌≤◌, ◌<◌, ℕ, zero, suc, ◌+◌, ◌-◌, Bool, true, false, ◌&&◌, nat_lt, List, [], ◌∷◌, ◌++◌, take, Option}
+use Rattle.std.proofs.Common.{◌≡◌, ◌≤◌, ◌<◌, ℕ, zero, suc, ◌+◌, ◌-◌, Bool, true, false, ◌&&◌, nat_le, List, [], ◌∷◌, ◌++◌, take, Option}
 use Rattle.std.proofs.Common.{None, Some, refl, ap, arith}
 use Rattle.std.proofs.lemmas.Bool.Decides.{nat_tests}
 use Rattle.alma_tree.specs.declared.kind.Kind.{Kind}
@@ -21,11 +21,11 @@ one_way : (k : Kind) → (opens k && closes k) ≡ false
 one_way kinds.Name = refl
 one_way k = refl
 
-deeper : (o c d : ℕ) → c + d ≡ o → nat_lt 99 d ≡ true → 100 < o + 1 - (c + 0)
+deeper : (o c d : ℕ) → c + d ≡ o → nat_le 100 d ≡ true → 100 < o + 1 - (c + 0)
 deeper o c d e h = let x : 99 < d = grind (arith, nat_tests) in omega arith
 
 -- where a token opens a bracket too deep
-too_deep_behind : (opening closing : Bool) (o c d : ℕ) → (opening && closing) ≡ false → c + d ≡ o → (opening && nat_lt 99 d) ≡ true
+too_deep_behind : (opening closing : Bool) (o c d : ℕ) → (opening && closing) ≡ false → c + d ≡ o → (opening && nat_le 100 d) ≡ true
     → 100 < o + one_where opening - (c + one_where closing)
 too_deep_behind true false o c d w e h = deeper o c d e h
 too_deep_behind true true o c d w e h = absurd cc
@@ -38,7 +38,7 @@ record Moved (o c d : ℕ) (P : ℕ → Type 0) : Type 0 where
   nested : P d
 
 moves : (opening closing : Bool) (o c d : ℕ) (P : ℕ → Type 0) → (opening && closing) ≡ false → c + d ≡ o → d ≤ 100
-    → (opening && nat_lt 99 d) ≡ false → Behind opening closing d P
+    → (opening && nat_le 100 d) ≡ false → Behind opening closing d P
     → Moved (o + one_where opening) (c + one_where closing) (next_depth opening closing d) P
 moves true false o c d P w e i h n =
     record { counted = omega arith; bounded = let x : d ≤ 99 = grind (arith, nat_tests) in omega arith; nested = n }
@@ -59,7 +59,7 @@ last o c d true e i = omega arith
 last o c d false e i = ([], refl, omega arith)
 
 on : (k : Kind) (ks : List Kind) (o c d : ℕ) (parts : List Part) (n : Option (List Part)) → WhereSome n (GoesOn parts k) → (deep : Bool)
-    → (opens k && nat_lt 99 d) ≡ deep → (go : List Part → End) → c + d ≡ o → d ≤ 100 → Nested d parts
+    → (opens k && nat_le 100 d) ≡ deep → (go : List Part → End) → c + d ≡ o → d ≤ 100 → Nested d parts
     → ((later : List Part) → Moved (o + one_where (opens k)) (c + one_where (closes k)) (level d k) (λ e. Nested e later)
     → HasDepthFrom (o + one_where (opens k)) (c + one_where (closes k)) ks (go later))
     → HasDepthFrom o c (k ∷ ks) (goes_on n deep (k ∷ ks) go)
@@ -74,5 +74,5 @@ pub has_depth : (ks : List Kind) (o c d : ℕ) (parts : List Part) → c + d ≡
     → HasDepthFrom o c ks (reading true ks d parts)
 has_depth [] o c d parts e i m = last o c d (all_skip parts) e i
 has_depth (k ∷ ks) o c d parts e i m =
-    on k ks o c d parts (next parts k) (goes_on_nested parts k) (opens k && nat_lt 99 d) refl (reading true ks (level d k)) e i m
+    on k ks o c d parts (next parts k) (goes_on_nested parts k) (opens k && nat_le 100 d) refl (reading true ks (level d k)) e i m
     (λ later x. has_depth ks _ _ (level d k) later x.counted x.bounded x.nested)

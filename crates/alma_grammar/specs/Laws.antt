@@ -1,5 +1,6 @@
 -- What is proved of the grammar.
 use Rattle.std.specs.Prelude.{◌≡◌, ◌≤◌, ◌<◌, true, false, List, [], ◌∷◌, ◌++◌, take}
+use Rattle.alma_base.specs.Limits.{depth_limit}
 use Rattle.alma_tree.specs.declared.kind.Kind.{Kind}
 use Rattle.alma_tree.specs.Tree.{Module}
 use Rattle.alma_tree.specs.Spelling.{spelling}
@@ -32,17 +33,17 @@ ExactPlace = (ks rest : List Kind) → reading true ks 0 whole ≡ unexpected re
 
 -- where reading ends so, how deep the tokens are that were read, and those with the next one
 abbrev pub HasDepth : List Kind → End → Type 0
-HasDepth ks done = depth ks ≤ 100
-HasDepth ks (unexpected rest) = (front : List Kind) × (ks ≡ front ++ rest) × (depth front ≤ 100)
-HasDepth ks (too_deep rest) = (front : List Kind) × (ks ≡ front ++ rest) × (depth front ≤ 100) × (100 < depth (front ++ take 1 rest))
+HasDepth ks done = depth ks ≤ depth_limit
+HasDepth ks (unexpected rest) = (front : List Kind) × (ks ≡ front ++ rest) × (depth front ≤ depth_limit)
+HasDepth ks (too_deep rest) = (front : List Kind) × (ks ≡ front ++ rest) × (depth front ≤ depth_limit) × (depth_limit < depth (front ++ take 1 rest))
 
--- The depth passes 100 at no token before the one that is refused, and it passes 100 there where that is too deep.
+-- The depth passes its limit at no token before the one that is refused, and passes it there where that is too deep.
 abbrev pub ExactDepth : Type 0
 ExactDepth = (ks : List Kind) → HasDepth ks (reading true ks 0 whole)
 
--- A list of kinds is a program where some tree spells it and its depth is at most 100.
+-- A list of kinds is a program where some tree spells it and its depth is within the limit.
 abbrev pub IsProgram : List Kind → Type 0
-IsProgram ks = ((t : Module) × (spelling t ≡ ks)) × (depth ks ≤ 100)
+IsProgram ks = ((t : Module) × (spelling t ≡ ks)) × (depth ks ≤ depth_limit)
 
 -- Each program is read to its end, and what is read to its end is a program.
 pub record EachProgramIsRead : Type 0 where
@@ -57,13 +58,13 @@ OneSpelling = (t u : Module) → spelling t ≡ spelling u → t ≡ u
 pub record IsUnexpected (front rest : List Kind) : Type 0 where
   pub begins : Begins front
   pub stops : Stops front rest
-  pub bounded : depth front ≤ 100
+  pub bounded : depth front ≤ depth_limit
 
 -- the token behind this front may stand there, and it is the first that is too deep
 pub record IsTooDeep (front rest : List Kind) : Type 0 where
   pub begins : Begins (front ++ take 1 rest)
-  pub bounded : depth front ≤ 100
-  pub deep : 100 < depth (front ++ take 1 rest)
+  pub bounded : depth front ≤ depth_limit
+  pub deep : depth_limit < depth (front ++ take 1 rest)
 
 -- what an end says of the list, in words of trees and depths alone
 abbrev pub IsExact : List Kind → End → Type 0

@@ -1,10 +1,11 @@
 -- How reading a list of tokens ends.
-use Rattle.std.specs.Prelude.{ℕ, suc, pred, Bool, true, false, ◌&&◌, List, [], ◌∷◌, Option, None, Some, nat_lt}
+use Rattle.std.specs.Prelude.{ℕ, suc, pred, Bool, true, false, ◌&&◌, List, [], ◌∷◌, Option, None, Some, nat_le}
+use Rattle.alma_base.specs.Limits.{depth_limit}
 use Rattle.alma_tree.specs.declared.kind.Kind.{Kind}
 use Rattle.alma_tree.specs.Depth.{opens, closes}
 use Rattle.alma_grammar.specs.Parts.{Part, next, all_skip}
 
--- all is read; or at these tokens none goes on, or the depth passes 100 at the first of them
+-- all is read; or at these tokens none goes on, or the depth passes its limit at the first of them
 pub data End : Type 0 where
   done : End
   unexpected : (rest : List Kind) → End
@@ -25,7 +26,7 @@ abbrev pub at_end : Bool → End
 at_end true = done
 at_end false = unexpected []
 
--- reading ends at a token with which the depth would pass 100, and goes on at others
+-- reading ends at a token with which the depth would pass its limit, and goes on at others
 abbrev pub unless_deep : Bool → List Kind → End → End
 unless_deep true ks _ = too_deep ks
 unless_deep false _ e = e
@@ -35,8 +36,8 @@ abbrev pub goes_on : Option (List Part) → Bool → List Kind → (List Part �
 goes_on None deep ks go = unexpected ks
 goes_on (Some parts) deep ks go = unless_deep deep ks (go parts)
 
--- How reading the tokens ends where these parts are open at this depth. With `checked` the depth is held to at most 100.
+-- How reading the tokens ends where these parts are open at this depth. With `checked` the depth is held to its limit.
 abbrev pub reading : (checked : Bool) → List Kind → (depth : ℕ) → (open_parts : List Part) → End
 reading checked [] d open_parts = at_end (all_skip open_parts)
 reading checked (k ∷ ks) d open_parts =
-    goes_on (next open_parts k) (checked && (opens k && nat_lt 99 d)) (k ∷ ks) (reading checked ks (level d k))
+    goes_on (next open_parts k) (checked && (opens k && nat_le depth_limit d)) (k ∷ ks) (reading checked ks (level d k))

@@ -24,7 +24,7 @@ pub fn exact_place()
     ensures exact { ExactPlace }
 {}
 
-/// The depth passes 100 at no token before the one that is refused, and it passes 100 there where
+/// The depth passes its limit at no token before the one that is refused, and passes it there where
 /// that is too deep.
 pub fn exact_depth()
     ensures exact { ExactDepth }

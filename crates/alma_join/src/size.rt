@@ -8,11 +8,8 @@ ghost use Rattle.alma_ir.specs.View.{program_of, routine_of, global_of};
 ghost use Rattle.alma_join.specs.Joined as joined;
 ghost use Rattle.alma_join.specs.Totals.{AreTotals};
 
-use alma_base::{CELL_LIMIT, POOL_LIMIT, RECORD_LIMIT};
+use alma_base::{CELL_LIMIT, POOL_LIMIT, RECORD_LIMIT, ROUTINE_SLOT_LIMIT};
 use alma_ir::{Global, Program, Routine, text_bytes_inside};
-
-/// The greatest number of slots of a routine of a checked program.
-const ROUTINE_SLOT_LIMIT: u64 = 4_194_304;
 
 /// Six quantities that a program bounds, each stopped at 2^64-1.
 #[derive(Clone, Copy)]

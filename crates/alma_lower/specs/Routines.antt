@@ -1,6 +1,7 @@
 -- What the routines of a code in the making are.
 use Rattle.std.specs.Prelude.{◌≡◌, ◌<◌, ℕ, ◌++◌, List, [], map, length, get_or, Option, Some, None}
 use Rattle.alma_base.specs.declared.number.Range.{Range}
+use Rattle.alma_code.specs.Machine.{no_return}
 use Rattle.alma_code.specs.declared.instr.Instr.{Instr}
 use Rattle.alma_code.specs.declared.instr.Instr.TheVariants as I
 use Rattle.alma_code.specs.declared.cell.SlotKind.{SlotKind}
@@ -19,7 +20,7 @@ around_at p tables r = record { program = p; tables = tables; routine = r }
 
 -- the end of a routine: a function that gave no result faults
 abbrev pub end_instr : Option Range → Instr
-end_instr (Some range) = I.Fault 6
+end_instr (Some range) = I.Fault no_return
 end_instr None = I.Return
 
 -- b is a where a routine begins, behind so many own slots, with these lines

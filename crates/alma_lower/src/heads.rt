@@ -10,14 +10,11 @@ ghost use Rattle.alma_lower_work.specs.Front.{front, Codes};
 ghost use Rattle.alma_lower.specs.Routines.{end_instr, Begins, HeadFor};
 
 use alma_base::{NoMemory, RECORD_LIMIT, SLOT_LIMIT};
-use alma_code::{CodeParam, Instr, RoutineHead, SlotKind};
+use alma_code::{CodeParam, Instr, NO_RETURN, RoutineHead, SlotKind};
 use alma_ir::Routine;
 use alma_lower_parts::Work;
 use alma_lower_tables::{params_of, runs_of};
 use std::alloc::Global;
-
-// The number of the fault NoResult.
-const NO_RESULT: u32 = 6;
 
 /// Begins a routine, behind so many own slots of it.
 #[tactic(auto, unfolding(alma_lower_work::specs::Front::front))]
@@ -41,7 +38,7 @@ pub fn put_end(work: &mut Work, routine: &Routine) -> Result<(), NoMemory>
         (end_instr routine.now.result ∷ []))) }
 {
     let end = match routine.result {
-        Some(_) => Instr::Fault { number: NO_RESULT },
+        Some(_) => Instr::Fault { number: NO_RETURN },
         None => Instr::Return,
     };
     work.put(routine.line, end)?;

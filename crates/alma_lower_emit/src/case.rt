@@ -11,15 +11,12 @@ ghost use Rattle.alma_lower_emit.specs.Inside.{EmitsStmts};
 use crate::expression::emit_expr;
 use crate::inside::emit_inside;
 use alma_base::NoMemory;
-use alma_code::Instr;
+use alma_code::{Instr, NO_CASE};
 use alma_ir::{CaseArm, Expr, Stmt};
 use alma_lower_parts::{
     Labels, Scene, Work, end_arm, end_dead, has_dead, pass_stmts, pass_unlabelled, put_labels,
     then_take_labels,
 };
-
-// The number of the fault NoCase.
-const NO_CASE: u32 = 5;
 
 // CASE.
 pub(crate) fn emit_case<S>(

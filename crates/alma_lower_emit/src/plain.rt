@@ -6,7 +6,7 @@ ghost use Rattle.alma_ir.specs.View.{expr_of};
 ghost use Rattle.alma_lower_templates.specs.LineInstr.{own};
 ghost use Rattle.alma_lower_templates.specs.Pieces as pieces;
 ghost use Rattle.alma_lower_templates.specs.Tables.{range_number};
-ghost use Rattle.alma_lower_templates.specs.Templates.{char_range};
+ghost use Rattle.alma_base.specs.Numbers.{char_range};
 ghost use Rattle.alma_lower_work.specs.Front.{around, front, Changes, Codes};
 ghost use Rattle.alma_lower_parts.specs.Numbers.{PutsNumber};
 ghost use Rattle.alma_lower_parts.specs.Steps.{PutsSlot};

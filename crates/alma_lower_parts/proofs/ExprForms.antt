@@ -10,6 +10,7 @@ use Rattle.alma_ir.specs.Tree.{Expr, Links, Desig, Const, Load, Chain, Compare, 
 use Rattle.alma_ir.specs.Phrases.{stmts_phrases, expr_phrases, links_phrases}
 use Rattle.alma_ir.specs.Lines.{behind, stmts_with, expr_with, links_with, desig_with}
 use Rattle.alma_ir.proofs.LinesBack.{behind_two}
+use Rattle.alma_base.specs.Numbers.{char_range}
 use Rattle.alma_lower_work.specs.Front.{Around, Front, Codes, Takes}
 use Rattle.alma_lower_work.specs.Puts.{PutsExpr, PutsFirstOperand, PutsValue, PutsLinks, PutsHeld, PutsTarget, stand_by}
 use Rattle.alma_lower_work.specs.Puts.{stand_of, value_slot, behind_sign}
@@ -267,7 +268,7 @@ module _ (s : Around) (line : ℕ) where
             (ap (λ n. code ++ own line (I.Known n place ∷ [])) is ∙ ap (λ n. code ++ own line (I.Known a.next n ∷ [])) there) refl refl;
       }
 
-  pub chr_put : (a b c : Front) (e : Expr) (to range : ℕ) → PutsExpr s line a b e → to ≡ a.next → range ≡ range_number s.tables T.char_range
+  pub chr_put : (a b c : Front) (e : Expr) (to range : ℕ) → PutsExpr s line a b e → to ≡ a.next → range ≡ range_number s.tables char_range
       → Codes b c (own line (I.InRange to range ∷ [])) → PutsExpr s line a c (Chr e)
   unfolding stmts_with stmts_phrases
   chr_put a b c e to range h is is2 k =

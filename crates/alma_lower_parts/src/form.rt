@@ -7,7 +7,8 @@ ghost use Rattle.alma_ir.specs.View.{expr_of, sels_list};
 ghost use Rattle.alma_lower_templates.specs.LineInstr.{own};
 ghost use Rattle.alma_lower_templates.specs.Pieces as pieces;
 ghost use Rattle.alma_lower_templates.specs.Tables.{range_number};
-ghost use Rattle.alma_lower_templates.specs.Templates.{char_range, fit_result};
+ghost use Rattle.alma_base.specs.Numbers.{char_range};
+ghost use Rattle.alma_lower_templates.specs.Templates.{fit_result};
 ghost use Rattle.alma_lower_work.specs.Front.{around, front, result_of, Changes, Codes};
 ghost use Rattle.alma_lower_work.specs.Puts.{set_instr};
 ghost use Rattle.alma_lower_parts.specs.Numbers.{PutsNumber};
@@ -20,9 +21,6 @@ use alma_lower_work::{
     Scene, Stand, Work, is_straight, own_root, put_fit, put_result_fit, put_root, put_truth,
     read_instr,
 };
-
-// The numbers of CHAR.
-const CHARS: Range = Range { low: 0, high: 255 };
 
 /// A number for a variable, in a range.
 pub fn put_set(
@@ -96,7 +94,7 @@ pub fn put_chr(work: &mut Work, scene: &Scene<'_>, line: u32, value: u32) -> Res
     ensures codes { OnOk result (Codes (front work.old) (front work.new) (own line
         (instr.InRange value (range_number (around scene.now).tables char_range) ∷ []))) }
 {
-    let range = scene.range_number(CHARS)?;
+    let range = scene.range_number(Range::character())?;
     work.put(line, Instr::InRange { value, range })?;
     Ok(value)
 }

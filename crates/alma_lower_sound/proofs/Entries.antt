@@ -9,7 +9,7 @@ use Rattle.std.proofs.lemmas.List.Sums.{sum_by-cons, sum_by-append, sum_by-le-su
 use Rattle.std.proofs.lemmas.List.Elements.{Contains-append_left, Contains-append_right, Contains-append_cases}
 use Rattle.std.proofs.lemmas.Int.{ints}
 use Rattle.std.proofs.lemmas.Map.Keys.{IsDistinct-head, IsDistinct-tail}
-use Rattle.alma_base.specs.Numbers.{int_eq}
+use Rattle.alma_base.specs.Numbers.{char_range, int_eq}
 use Rattle.alma_base.specs.declared.number.Range.{Range}
 use Rattle.alma_code.specs.Plain.{PlainCode}
 use Rattle.alma_code.specs.Records.{text_count}
@@ -30,7 +30,6 @@ use Rattle.alma_ir.specs.Count.{desig_nodes, sels_nodes, sel_nodes}
 use Rattle.alma_ir.specs.Checked.{IsChecked, IsOrdered, labels_of, ranges_of, text_bytes}
 use Rattle.alma_ir.proofs.Each.{each_of_append}
 use Rattle.alma_lower_templates.specs.Tables.{same_range, same_text}
-use Rattle.alma_lower_templates.specs.Templates.{char_range}
 use Rattle.alma_lower_sound.specs.Entries.{HoldsEachOnce, of_each, program_phrases, program_ranges, program_texts, result_range, texts_of}
 
 -- ---- entries of a table

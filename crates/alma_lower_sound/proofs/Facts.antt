@@ -13,7 +13,7 @@ use Rattle.alma_ir.specs.Lines.{behind, stmts_with, args_with, body_with_lines}
 use Rattle.alma_ir.specs.Phrases.{Phrase, StmtPhrase, TestPhrase, ExprPhrase, ArgPhrase, DesigPhrase, SelPhrase, stmts_phrases}
 use Rattle.alma_ir.specs.Phrases.{expr_phrases, desig_phrases}
 use Rattle.alma_lower_templates.specs.Tables.{Tables, text_number}
-use Rattle.alma_lower_templates.specs.Templates.{char_range}
+use Rattle.alma_base.specs.Numbers.{char_range}
 use Rattle.alma_lower_templates.specs.CodeOf.{HoldsRange, HoldsChecked, InTables, HoldsAllOf}
 use Rattle.alma_lower_templates.proofs.Asked.{cells_with, parts_with, args_with_fit}
 use Rattle.alma_lower_sound.proofs.WithLines.{phrase_with, stmts_stay}

@@ -37,7 +37,7 @@ use Rattle.alma_lower_templates.specs.Slots.{handed_slots, arg_slots, fields_fro
 use Rattle.alma_lower_templates.specs.Slots.{behind_expr, behind_dead, behind_value, behind_desig, behind_target, behind_variable}
 use Rattle.alma_lower_templates.specs.Slots.{behind_test, behind_stmts, behind_stmt, behind_condition, own_place, own_root, goes_straight}
 use Rattle.alma_lower_templates.specs.Slots.{constant, ends_alone, is_straight, held_constant, behind_held}
-use Rattle.alma_lower_templates.specs.Templates.{char_range, own_slot, slot_or, outer_slot, link_if, set_by, load_by, value_at, part_slot}
+use Rattle.alma_lower_templates.specs.Templates.{own_slot, slot_or, outer_slot, link_if, set_by, load_by, value_at, part_slot}
 use Rattle.alma_lower_templates.specs.Templates.{behind_root, root_code, call_link_code, arguments_from, call_code, set_code}
 use Rattle.alma_lower_templates.specs.Templates.{load_code, count_at, count_code, fit_result, stmts_code, stmt_code, if_code, arms_code}
 use Rattle.alma_lower_templates.specs.Templates.{for_code, some_code, dead_code, case_code, cases_code, else_code, either_code}
@@ -48,7 +48,7 @@ use Rattle.alma_lower_templates.proofs.First.{as_stays, as_taken}
 use Rattle.alma_lower_templates.proofs.Placed.{handed_is}
 use Rattle.alma_lower_templates.proofs.CaseForms.{one_test, both_tests}
 use Rattle.std.specs.Prelude.{if◌then◌else◌}
-use Rattle.alma_base.specs.Numbers.{int_eq}
+use Rattle.alma_base.specs.Numbers.{char_range, int_eq}
 use Rattle.alma_lower_templates.proofs.Tested.{compared_code, Tested, tested, as_value, as_unequal}
 use Rattle.alma_lower_templates.proofs.Turned.{Turned, compares_two, turned, while_code}
 use Rattle.alma_lower_templates.proofs.FormRuns.{held_code}

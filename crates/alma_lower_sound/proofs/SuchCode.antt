@@ -6,7 +6,7 @@ use Rattle.std.specs.List.{AllByRecursion, Contains, IsDistinct, list_any}
 use Rattle.std.proofs.lemmas.Bool.{and_parts, eqb-true}
 use Rattle.std.proofs.lemmas.List.Elements.{Contains-append_left, Contains-append_right}
 use Rattle.std.proofs.lemmas.Map.Keys.{IsDistinct-cons}
-use Rattle.alma_base.specs.Numbers.{int_eq}
+use Rattle.alma_base.specs.Numbers.{char_range, int_eq}
 use Rattle.alma_base.specs.declared.number.Range.{Range}
 use Rattle.alma_code.specs.declared.cell.SlotKind.{SlotKind}
 use Rattle.alma_code.specs.declared.head.Run.{Run}
@@ -20,7 +20,6 @@ use Rattle.alma_ir.specs.Checked.{ranges_of}
 use Rattle.alma_lower_templates.specs.Runs.{NamesKinds, RunsDiffer}
 use Rattle.alma_lower_templates.specs.Tables.{Tables, same_range, same_text, count_past, first_place}
 use Rattle.alma_lower_templates.specs.Slots.{routine_kinds}
-use Rattle.alma_lower_templates.specs.Templates.{char_range}
 use Rattle.alma_lower_templates.specs.Compiled.{program_code}
 use Rattle.alma_lower_templates.specs.CodeOf.{HoldsRange, InTables, HoldsAllOf, IsCodeOf}
 use Rattle.alma_lower_sound.specs.Entries.{AreSome, HoldsEachOnce, of_each, program_phrases, program_ranges, program_texts, result_range}

@@ -7,7 +7,7 @@ use Rattle.alma_ir.specs.Tree.{Program, WriteText}
 use Rattle.alma_ir.specs.Phrases.{Phrase, StmtPhrase, stmts_phrases}
 use Rattle.alma_ir.specs.Checked.{ranges_of}
 use Rattle.alma_lower_templates.specs.Tables.{same_range, same_text}
-use Rattle.alma_lower_templates.specs.Templates.{char_range}
+use Rattle.alma_base.specs.Numbers.{char_range}
 
 -- what is made of each element, one list behind another
 abbrev pub of_each : {A B : Type 0} → (A → List B) → List A → List B

@@ -19,7 +19,7 @@ use Rattle.alma_lower_sound.proofs.Entries.{range_itself, text_itself}
 use Rattle.alma_lower_tables.proofs.Places.{range_is, text_is}
 use Rattle.alma_lower_templates.specs.CodeOf.{HoldsRange, InTables, HoldsAllOf, HasIntegers, IsOfIntegers}
 use Rattle.alma_lower_templates.specs.Tables.{Tables, same_range, same_text, is_whole, first_place}
-use Rattle.alma_lower_templates.specs.Templates.{char_range}
+use Rattle.alma_base.specs.Numbers.{char_range}
 use Rattle.alma_lower_tables.specs.AddsPhrases.{unless_whole, check_range, checked_result, checked_results, named_ranges, with_entries}
 use Rattle.alma_lower_tables.specs.AddsPhrases.{Names}
 use Rattle.alma_lower_tables.specs.AddsPhrases.{AddsPhrases}

@@ -5,7 +5,7 @@ use Rattle.std.proofs.Math.Seq.{take-suc, take-length}
 use Rattle.std.specs.Prelude.{Vec, Result, Ok, Err, OnOk}
 use Rattle.std.specs.declared.alloc.Global.{Global}
 use Rattle.std.proofs.lemmas.List.{append-nil}
-use Rattle.alma_base.specs.Numbers.{is_integer}
+use Rattle.alma_base.specs.Numbers.{char_range, is_integer}
 use Rattle.alma_base.specs.declared.number.Range.{Range}
 use Rattle.alma_ir.specs.declared.phrase.Stmt as S
 use Rattle.alma_ir.specs.declared.phrase.Test as T
@@ -26,7 +26,6 @@ use Rattle.alma_ir.proofs.Views as views
 use Rattle.alma_lower_sound.specs.Entries.{of_each, texts_of}
 use Rattle.alma_lower_templates.specs.CodeOf.{HasIntegers}
 use Rattle.alma_lower_templates.specs.Tables.{Tables, same_range, same_text}
-use Rattle.alma_lower_templates.specs.Templates.{char_range}
 use Rattle.alma_ir.proofs.Each.{each_of_append}
 use Rattle.alma_lower_tables.specs.Numbers.{with_entry}
 use Rattle.alma_lower_tables.specs.AddsPhrases.{check_range, named_ranges, with_entries, Names, AddsPhrases, HasIntegerEnds}

@@ -1,7 +1,7 @@
 -- What a walk over phrases gathers.
 use Rattle.std.specs.Prelude.{◌≡◌, ℕ, Bool, true, false, List, [], ◌∷◌, Option, Some, None}
 use Rattle.std.specs.List.{AllByRecursion}
-use Rattle.alma_base.specs.Numbers.{is_integer}
+use Rattle.alma_base.specs.Numbers.{is_integer, char_range}
 use Rattle.alma_base.specs.declared.number.Range.{Range}
 use Rattle.alma_ir.specs.Tree.{Program, Assign, ForTo, SomeOf, Read, a_loop, Bind, Unify, Chr, ByValue, MixValue, Index}
 use Rattle.alma_ir.specs.Phrases.{Phrase, StmtPhrase, TestPhrase, ExprPhrase, ArgPhrase, SelPhrase}
@@ -9,7 +9,6 @@ use Rattle.alma_lower_sound.specs.Entries.{of_each, texts_of}
 use Rattle.alma_lower_tables.specs.Numbers.{with_entry}
 use Rattle.alma_lower_templates.specs.CodeOf.{HasIntegers}
 use Rattle.alma_lower_templates.specs.Tables.{Tables, same_range, same_text, is_whole}
-use Rattle.alma_lower_templates.specs.Templates.{char_range}
 
 -- nothing where the range is whole
 abbrev pub unless_whole : Bool → Range → List Range

@@ -11,9 +11,6 @@ use alma_base::{NoMemory, Range};
 use alma_ir::{Arg, Arm, Branch, CaseArm, Desig, Expr, Link, Loop, Sel, Stmt, Test};
 use std::alloc::Global;
 
-// The numbers of CHAR.
-const CHARS: Range = Range { low: 0, high: 255 };
-
 /// Gives numbers to the ranges and texts that the code of these statements names, and that of all
 /// that stands inside them. The bodies of routines that are called are none of these.
 #[cycle(walk)]
@@ -216,7 +213,7 @@ fn walk_expr(alloc: Global, numbers: &mut Numbers, expr: &Expr) -> Result<(), No
         Expr::Truth(test) => walk_test(alloc, numbers, test),
         Expr::Known(desig) => walk_desig(alloc, numbers, desig),
         Expr::Chr(inner) => {
-            add_range(numbers, CHARS)?;
+            add_range(numbers, Range::character())?;
             walk_expr(alloc, numbers, inner)
         }
         Expr::Call(call) => walk_args(alloc, numbers, &call.args),

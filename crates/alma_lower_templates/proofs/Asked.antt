@@ -4,7 +4,7 @@ use Rattle.std.proofs.Common.{◌≡◌, ℕ, zero, suc, ◌+◌, ◌<◌, ◌�
 use Rattle.std.proofs.Common.{refl, sym, ap, ◌∙◌, subst, arith, ℤ}
 use Rattle.std.specs.Prelude.{slice_get}
 use Rattle.std.specs.List.{AllByRecursion}
-use Rattle.alma_base.specs.Numbers.{within, is_integer}
+use Rattle.alma_base.specs.Numbers.{char_range, within, is_integer}
 use Rattle.alma_base.specs.declared.number.Range.{Range}
 use Rattle.alma_code.specs.declared.cell.SlotKind.{SlotKind}
 use Rattle.alma_code.specs.declared.cell.SlotKind.TheVariants as slot
@@ -30,7 +30,7 @@ use Rattle.alma_lower_templates.specs.Tables.{Tables, range_number, text_number,
 use Rattle.alma_lower_templates.specs.Slots.{bare, bare_desig, unless_bare, ends_alone, is_simple, is_simple_expr, mark_slots}
 use Rattle.alma_lower_templates.specs.Slots.{expr_slots, desig_slots, test_slots, is_turned, behind_expr}
 use Rattle.alma_lower_templates.specs.Pieces.{straight}
-use Rattle.alma_lower_templates.specs.Templates.{char_range, expr_code}
+use Rattle.alma_lower_templates.specs.Templates.{expr_code}
 use Rattle.alma_lower_templates.proofs.AtOnce.{BareFits, AtOnce}
 use Rattle.alma_lower_templates.proofs.First.{ConstantFits}
 use Rattle.alma_lower_templates.proofs.Bounds.{LimitRuns}

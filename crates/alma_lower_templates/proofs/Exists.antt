@@ -4,7 +4,7 @@ use Rattle.std.proofs.Common.{replicate, Some, None, Option, ℤ, pos, negsuc, r
 use Rattle.std.specs.Prelude.{slice_get, nat_eq}
 use Rattle.std.specs.List.{AllByRecursion}
 use Rattle.std.proofs.lemmas.Bool.{and_parts, and_from, eqb-true, eq-eqb}
-use Rattle.alma_base.specs.Numbers.{int_eq}
+use Rattle.alma_base.specs.Numbers.{char_range, int_eq}
 use Rattle.alma_base.specs.declared.number.Range.{Range}
 use Rattle.alma_code.specs.declared.cell.SlotKind.{SlotKind}
 use Rattle.alma_code.specs.declared.head.Run.{Run}
@@ -18,7 +18,6 @@ use Rattle.alma_ir.specs.Phrases.{Phrase, StmtPhrase, TestPhrase, ExprPhrase, Ar
 use Rattle.alma_ir.specs.Checked.{ranges_of}
 use Rattle.alma_lower_templates.specs.Tables.{Tables, same_range, same_text, count_past, first_place}
 use Rattle.alma_lower_templates.specs.Slots.{routine_kinds}
-use Rattle.alma_lower_templates.specs.Templates.{char_range}
 use Rattle.alma_lower_templates.specs.Compiled.{program_code}
 use Rattle.alma_lower_templates.specs.CodeOf.{HoldsRange, InTables, HoldsAllOf, IsCodeOf}
 

@@ -3,7 +3,7 @@ use Rattle.std.proofs.Common.{◌≡◌, ℕ, zero, suc, ◌+◌, ◌*◌, ◌�
 use Rattle.std.proofs.Common.{None, refl, ap, arith, ℤ, pos}
 use Rattle.std.proofs.lemmas.List.{length-append, length-map}
 use Rattle.std.specs.Prelude.{if◌then◌else◌}
-use Rattle.alma_base.specs.Numbers.{int_eq}
+use Rattle.alma_base.specs.Numbers.{char_range, int_eq}
 use Rattle.alma_base.specs.declared.number.Range.{Range}
 use Rattle.alma_code.specs.declared.instr.Instr.{Instr}
 use Rattle.alma_code.specs.declared.instr.Instr.TheVariants as I
@@ -511,7 +511,7 @@ module _ (p : Program) (tables : Tables) (r : ℕ) where
         omega (
           arith,
           length-append (Templates.expr_code p tables r line at lo (expr_with e ls))
-              (own line (I.InRange lo (range_number tables Templates.char_range) ∷ [])),
+              (own line (I.InRange lo (range_number tables char_range) ∷ [])),
           expr_few line at lo e ls h.1,
         )
     expr_few line at lo (CallExpr called args up) ls h =

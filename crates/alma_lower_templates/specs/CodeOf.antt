@@ -1,6 +1,6 @@
 -- When a code is that of a program, and which programs have one.
 use Rattle.std.specs.Prelude.{◌≡◌, ◌<◌, ℕ, true, false, List, [], length, get_or, Some, slice_get}
-use Rattle.alma_base.specs.Numbers.{is_integer}
+use Rattle.alma_base.specs.Numbers.{is_integer, char_range}
 use Rattle.alma_base.specs.declared.number.Range.{Range}
 use Rattle.alma_code.specs.declared.head.Run.{Run}
 use Rattle.alma_code.specs.Layout.{kinds_of}
@@ -11,7 +11,6 @@ use Rattle.alma_ir.specs.Phrases.{Phrase, StmtPhrase, TestPhrase, ExprPhrase, Ar
 use Rattle.alma_ir.specs.Checked.{EachPhrase}
 use Rattle.alma_lower_templates.specs.Tables.{Tables, range_number, text_number, is_whole}
 use Rattle.alma_lower_templates.specs.Slots.{routine_kinds}
-use Rattle.alma_lower_templates.specs.Templates.{char_range}
 use Rattle.alma_lower_templates.specs.Compiled.{program_code}
 
 -- ---- the tables

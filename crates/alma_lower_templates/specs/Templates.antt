@@ -1,7 +1,9 @@
 -- The code that is made of each phrase of a routine. A phrase stands at an address, has the line of the statement round it,
 -- and takes fresh slots from a slot on: those of `stmt_slots` and the like.
 use Rattle.std.specs.Prelude.{ℕ, zero, suc, ◌+◌, true, false, pos, List, [], ◌∷◌, ◌++◌, length, Option, Some, None}
+use Rattle.alma_base.specs.Numbers.{char_range}
 use Rattle.alma_base.specs.declared.number.Range.{Range}
+use Rattle.alma_code.specs.Machine.{no_case, no_return}
 use Rattle.alma_code.specs.declared.instr.Instr.{Instr}
 use Rattle.alma_code.specs.declared.instr.Instr.TheVariants as I
 use Rattle.alma_ir.specs.declared.phrase.Cmp.TheVariants as cmp
@@ -29,10 +31,6 @@ use Rattle.alma_lower_templates.specs.Pieces.{link_code, condition, guard_code, 
 use Rattle.alma_lower_templates.specs.Pieces.{forall_code, begin_loop, turn_code, for_turns, some_turns, behind_labels, case_arm}
 use Rattle.alma_lower_templates.specs.Pieces.{passed_over, has_dead, put_code, first_argument, turned_loop, opposite_code, unless_constant}
 use Rattle.alma_lower_templates.specs.Pieces.{limit_code, place_code, held_code, held_or}
-
--- the numbers of CHAR
-abbrev pub char_range : Range
-char_range = record { low = pos 0; high = pos 255 }
 
 module _ (p : Program) (tables : Tables) (r : ℕ) where
   -- the slot of the code for a slot of the routine, and for one of the routine so many links up
@@ -281,7 +279,7 @@ module _ (p : Program) (tables : Tables) (r : ℕ) where
 
     -- 5 is the number of NoCase
     pub else_code : (line at lo : ℕ) → Else → List LineInstr
-    else_code line at lo no_else = own line (I.Fault 5 ∷ [])
+    else_code line at lo no_else = own line (I.Fault no_case ∷ [])
     else_code line at lo (else_part body) = stmts_code at lo body
 
     -- the first branch leaves over all, the others by its jump
@@ -441,7 +439,7 @@ module _ (p : Program) (tables : Tables) (r : ℕ) where
 
   -- at its end a function has no result, 6 is the number of NoReturn, and any other routine is left
   abbrev pub end_code : Option Range → Instr
-  end_code (Some range) = I.Fault 6
+  end_code (Some range) = I.Fault no_return
   end_code None = I.Return
 
   -- the body behind the own slots, and the end, which has the line of the routine

@@ -5,7 +5,7 @@
 -- its routine from the start.
 use Rattle.std.specs.Prelude.{ℕ, zero, suc, true, false, ℤ, pos, List, [], ◌∷◌, None}
 use Rattle.alma_base.specs.Choice.{if_true}
-use Rattle.alma_base.specs.Numbers.{is_zero, bit}
+use Rattle.alma_base.specs.Numbers.{char_range, is_zero, bit}
 use Rattle.alma_base.specs.declared.fault.RunFault.TheVariants as fault
 use Rattle.alma_ir.specs.Tree.{Stmts, Stmt, Arms, CaseArms, Else, Branches, Loop, ReturnExpr, Test, Tests, Expr, Links, Args, Arg, Desig}
 use Rattle.alma_ir.specs.Tree.{Sels, Sel, Program, routine_at, no_stmts, more_stmts, TestStmt, Assign, CopyCells, If, While, Repeat, ForTo}
@@ -187,7 +187,7 @@ module _ (p : Program) (input : List ℕ) (below : Level) where
     ev_expr (Truth t) s = node (on_first (ev_test t s) (λ u _. one u (pos 1)) (λ _. one s (pos 0)))
     ev_expr (Known d) s = node (bind (ev_desig d s) (λ t q. one t (known_bit (cell_of t q))))
     ev_expr (Chr e) s =
-        node (bind (ev_expr e s) (λ t n. check_range (record { low = pos 0; high = pos 255 }) n (λ _. one t n)))
+        node (bind (ev_expr e s) (λ t n. check_range char_range n (λ _. one t n)))
     ev_expr (CallExpr r args links) s =
         node (bind (ev_args args s) (λ t taken. as_value (routine_at p r).line (enter p (below.routine r) r links t taken)))
 

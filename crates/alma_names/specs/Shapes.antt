@@ -3,7 +3,7 @@ use Rattle.std.specs.Prelude.{◌≢◌, ℕ, ◌+◌, ◌-◌, ◌*◌, ◌<◌
 use Rattle.std.specs.Prelude.{◌∷◌, ◌++◌, map, get_or, slice_get, AllPairs, bytes_eq, Option, None, Some, IsSomeAnd, option_map}
 use Rattle.std.specs.Prelude.{option_and_then, unwrap_or, Result, Ok, Err, if◌then◌else◌}
 use Rattle.alma_base.specs.Limits.{cell_limit}
-use Rattle.alma_base.specs.Numbers.{range_size, whole_range}
+use Rattle.alma_base.specs.Numbers.{range_size, whole_range, char_range}
 use Rattle.alma_base.specs.declared.number.Range.{Range}
 use Rattle.alma_names.specs.declared.shapes.FieldOf.{FieldOf}
 use Rattle.alma_names.specs.declared.shapes.Shape.{Shape}
@@ -59,7 +59,7 @@ first_shapes = integer ∷ char ∷ boolean ∷ []
 -- the numbers of the values of a simple shape; rows and records have none
 abbrev pub range_of : PlainShape → Option Range
 range_of integer = Some whole_range
-range_of char = Some (record { low = pos 0; high = pos 255 })
+range_of char = Some char_range
 range_of boolean = Some (record { low = pos 0; high = pos 1 })
 range_of (listed n) = Some (record { low = pos 0; high = pos n -ℤ pos 1 })
 range_of (sub b r) = Some r

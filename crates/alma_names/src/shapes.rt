@@ -180,7 +180,7 @@ impl Shapes {
     {
         match self.get(id) {
             Shape::Integer => Some(Range::integer()),
-            Shape::Char => Some(Range { low: 0, high: 255 }),
+            Shape::Char => Some(Range::character()),
             Shape::Boolean => Some(Range { low: 0, high: 1 }),
             Shape::Listed { count } => Some(Range {
                 low: 0,

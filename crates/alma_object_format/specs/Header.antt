@@ -1,7 +1,7 @@
 -- The header of an object: the magic, the version and the counts.
 use Rattle.std.specs.Prelude.{◌≡◌, ℕ, ◌+◌, ◌*◌, ◌≤◌, true, ◌||◌, nat_eq, nat_le, if◌then◌else◌, Option, None, List, codes}
 use Rattle.std.specs.List.{starts_with}
-use Rattle.alma_base.specs.Limits.{instr_limit, slot_limit, record_limit, pool_limit}
+use Rattle.alma_base.specs.Limits.{routine_limit, instr_limit, slot_limit, record_limit, pool_limit}
 use Rattle.alma_object_format.specs.declared.fault.ObjectFault.{ObjectFault}
 use Rattle.alma_object_format.specs.declared.fault.ObjectFault.TheVariants as fault
 use Rattle.alma_object_format.specs.declared.header.Header.{Header}
@@ -27,10 +27,6 @@ header_of bytes = record {
   instrs = u32_at bytes 42;
   lines = if nat_eq (u16_at bytes 8) 2 then u32_at bytes 46 else 0;
 }
-
--- the greatest number of routines
-abbrev pub routine_limit : ℕ
-routine_limit = 262144
 
 -- ---- the faults of the header
 

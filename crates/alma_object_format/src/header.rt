@@ -6,10 +6,7 @@ ghost use Rattle.alma_object_format.specs.Header.{IsWithin, header_of, magic_fau
 
 use crate::bytes::{u16_at, u32_at};
 use crate::fault::ObjectFault;
-use alma_base::{INSTR_LIMIT, POOL_LIMIT, RECORD_LIMIT, SLOT_LIMIT};
-
-// The greatest number of routines.
-const ROUTINE_LIMIT: u32 = 262_144;
+use alma_base::{INSTR_LIMIT, POOL_LIMIT, RECORD_LIMIT, ROUTINE_LIMIT, SLOT_LIMIT};
 
 /// The version, and how many records or bytes each section has.
 #[derive(Clone, Copy)]

@@ -1,6 +1,6 @@
 // The parser, and why it refuses.
 ghost use Rattle.std.specs.Prelude.{◌≡◌, ◌≤◌, ◌-◌, length, IfOk, IfErr};
-ghost use Rattle.alma_base.specs.Limits.{source_limit};
+ghost use Rattle.alma_base.specs.Limits.{source_limit, depth_limit};
 ghost use Rattle.alma_tree.specs.Spelling.{spelling};
 ghost use Rattle.alma_tree.specs.View.{view_module};
 ghost use Rattle.alma_tree.specs.Numbers.{IsNumbered};
@@ -22,7 +22,7 @@ pub fn parse(alloc: Global, tokens: &[Token<'_>]) -> Result<Module, ParseError>
     requires few { length tokens.now ≤ source_limit }
     ensures found { IfOk result
         (λ m. (kinds_of tokens.now ≡ spelling (view_module m)) × IsNumbered m (length tokens.now) ×
-        (depth (kinds_of tokens.now) ≤ 100)) }
+        (depth (kinds_of tokens.now) ≤ depth_limit)) }
     ensures refused { IfErr result (λ e. Refuses e (kinds_of tokens.now)) }
 {
     match module(alloc, tokens) {

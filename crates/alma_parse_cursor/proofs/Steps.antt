@@ -1,6 +1,6 @@
 -- How what the functions of the parser give fits together.
 use Rattle.std.proofs.Common.{◌≡◌, ◌<◌, ◌+◌, ℕ, suc, pred, true, false, List, ◌∷◌, Option, Some, Result, Ok, Err}
-use Rattle.std.proofs.Common.{MatchResult, length, nat_lt, eq-eqb}
+use Rattle.std.proofs.Common.{MatchResult, length, nat_le, eq-eqb}
 use Rattle.std.proofs.Common.{refl, ap, ap₂, sym, ◌∙◌, subst, le_trans, le_refl, arith}
 use Rattle.alma_tree.specs.declared.kind.Kind.{Kind}
 use Rattle.alma_tree.specs.Kinds.{code}
@@ -19,7 +19,7 @@ is_taken : (k : Kind) (ks : List Kind) (d : ℕ) (o : List Part) → opens k ≡
     → reading true (k ∷ ks) d (one k ∷ o) ≡ reading true ks d o
 is_taken k ks d o h g = rw (eq-eqb (code k) (code k) refl, h, g) refl
 
-is_opened : (k : Kind) (ks : List Kind) (d : ℕ) (o : List Part) → opens k ≡ true → nat_lt 99 d ≡ false
+is_opened : (k : Kind) (ks : List Kind) (d : ℕ) (o : List Part) → opens k ≡ true → nat_le 100 d ≡ false
     → reading true (k ∷ ks) d (one k ∷ o) ≡ reading true ks (suc d) o
 is_opened k ks d o h g = rw (eq-eqb (code k) (code k) refl, h, g) refl
 

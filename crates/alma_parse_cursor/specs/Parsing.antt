@@ -1,5 +1,6 @@
 -- What the functions of the parser give.
-use Rattle.std.specs.Prelude.{◌≡◌, ◌≤◌, ◌<◌, ◌+◌, ℕ, suc, Bool, true, false, List, [], ◌∷◌, Some, map, length, nat_eq, nat_lt}
+use Rattle.std.specs.Prelude.{◌≡◌, ◌≤◌, ◌<◌, ◌+◌, ℕ, suc, Bool, true, false, List, [], ◌∷◌, Some, map, length, nat_eq, nat_le}
+use Rattle.alma_base.specs.Limits.{depth_limit}
 use Rattle.alma_tree.specs.declared.kind.Kind.{Kind}
 use Rattle.alma_tree.specs.Kinds.{code}
 use Rattle.alma_tree.specs.Numbers as numbers
@@ -44,7 +45,7 @@ pub record Passes (k : Kind) (a b : At) : Type 0 where
 pub record Opens (k : Kind) (d e : ℕ) (a b : At) : Type 0 where
   pub passes : Passes k a b
   pub deeper : e ≡ suc d
-  pub shallow : nat_lt 99 d ≡ false
+  pub shallow : nat_le depth_limit d ≡ false
 
 -- From a to b it gave a node its number.
 pub record Counts (n : ℕ) (a b : At) : Type 0 where

@@ -1,5 +1,6 @@
 // Where the parser stands, and its single steps.
 use crate::fault::Fault;
+use alma_base::DEPTH_LIMIT;
 use alma_scan::Token;
 use alma_tree::{Kind, Name};
 
@@ -92,7 +93,7 @@ impl<'t, 's> Cursor<'t, 's> {
             (λ o. one kind ∷ o) depth (position_of self.entry)) }
     {
         let after = self.expect(kind)?;
-        if depth < 100 {
+        if depth < DEPTH_LIMIT {
             Ok((after, depth + 1))
         } else {
             Err(Fault::TooDeep(self.rest))

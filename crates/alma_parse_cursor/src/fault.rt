@@ -7,7 +7,7 @@ use std::alloc::{AllocError, AllocFailed};
 pub enum Fault<'t, 's> {
     /// No program goes on with the next token.
     Unexpected(&'t [Token<'s>]),
-    /// The next token opens a bracket below 100 others.
+    /// The next token opens a bracket below `DEPTH_LIMIT` others.
     TooDeep(&'t [Token<'s>]),
     /// Memory ran out, or a count passed 32 bits.
     Memory,

@@ -1,14 +1,9 @@
 -- What the calls that check show.
-use Rattle.std.specs.Prelude.{◌≡◌, ℕ, ◌<◌, ℤ, Bool, nat_eq, List, [], ◌∷◌, ◌⊎◌, length, Option, None, Some, IsSomeAnd, IsTrue, option_map}
-use Rattle.std.specs.Prelude.{option_and_then, Result, Ok, Err, All}
+use Rattle.std.specs.Prelude.{◌≡◌, ℕ, ℤ, Bool, nat_eq, List, ◌∷◌, Option, None, Some, option_map}
+use Rattle.std.specs.Prelude.{option_and_then, Result, Ok, Err}
 use Rattle.alma_base.specs.declared.fault.CheckFault.{CheckFault}
-use Rattle.alma_base.specs.Numbers.{within}
 use Rattle.alma_scan.specs.Tokens.{Lexeme}
-use Rattle.alma_names.specs.declared.block.Entry.{Entry}
-use Rattle.alma_names.specs.declared.block.Entry.TheVariants as entry
-use Rattle.alma_names.specs.Shapes.{PlainShape, base_at, range_at}
-use Rattle.alma_names.specs.Blocks.{DeclaredName}
-use Rattle.alma_names.specs.Scopes.{Blocks}
+use Rattle.alma_names.specs.Shapes.{PlainShape, base_at}
 use Rattle.alma_ir.specs.Tree as ir
 use Rattle.alma_rules.specs.declared.error.Stop.{Stop}
 use Rattle.alma_rules.specs.declared.error.Stop.TheVariants as stop
@@ -59,24 +54,6 @@ abbrev pub Judges : {X : Type 0} → RoutineBodies → (X → List ir.Routine) �
 Judges j view shapes (Ok v) = (j.faults ≡ []) × (j.shapes ≡ shapes) × (j.value ≡ option_map view v)
 Judges j view shapes (Err e) = Names j.faults e
 
--- ---- an environment from which a constant or a type may be read
-
--- each shape number of an entry is one of the table, and a constant has a simple shape with its value in the range
-abbrev pub IsEntryOf : List PlainShape → Entry → Type 0
-IsEntryOf t (entry.Constant shape v) = IsSomeAnd (range_at t shape.0) (λ r. IsTrue (within r v))
-IsEntryOf t (entry.Named shape) = shape.0 < length t
-IsEntryOf t (entry.Variable shape access) = shape.0 < length t
-IsEntryOf t (entry.Routine r) = Unit {0}
-IsEntryOf t entry.Bad = Unit {0}
-
-abbrev pub AreEntriesOf : List PlainShape → List DeclaredName → Type 0
-AreEntriesOf t ds = All (λ d. IsEntryOf t d.entry) ds
-
-pub record IsEnvironment (t : List PlainShape) (b : Blocks) : Type 0 where
-  pub below : All (AreEntriesOf t) b.below
-  pub top : AreEntriesOf t b.top
-  pub shapes : length t < 2147483648
-
 -- ---- const_value, shape_of and fits
 
 -- the fault is the first that is broken, at its node, with the first token of that node
@@ -110,11 +87,6 @@ abbrev pub fits : List PlainShape → ℕ → ℕ → Bool
 fits t from to = nat_eq (base_at t from) (base_at t to)
 
 -- ---- check
-
--- a rule is broken at a node
-abbrev pub IsBroken : List BrokenRule → BrokenRule → Type 0
-IsBroken [] b = ⊥
-IsBroken (x ∷ xs) b = (x ≡ b) ⊎ IsBroken xs b
 
 -- the resolved program exactly where no rule is broken, and else the least of the broken rules, with the first token of its node
 abbrev pub Resolves : {X : Type 0} → (source : List ℕ) → List Lexeme → tree.Module → (X → ir.Program) → Result X CheckError → Type 0

@@ -1,7 +1,8 @@
 -- The rules on designators and expressions, and those of each node in the order of CheckFault. A rule that needs a type is not
 -- broken where that type is Bad (None).
-use Rattle.std.specs.Prelude.{ℕ, ℤ, pos, Bool, true, false, ◌&&◌, ◌||◌, not, nat_eq, int_le, List, [], ◌∷◌, ◌++◌, length, is_some, Option}
+use Rattle.std.specs.Prelude.{ℕ, ℤ, pos, Bool, true, false, ◌&&◌, ◌||◌, not, nat_eq, List, [], ◌∷◌, ◌++◌, length, is_some, Option}
 use Rattle.std.specs.Prelude.{None, Some, option_map}
+use Rattle.alma_base.specs.Numbers.{within, char_range}
 use Rattle.alma_base.specs.declared.fault.CheckFault.{CheckFault}
 use Rattle.alma_base.specs.declared.fault.CheckFault.TheVariants as fault
 use Rattle.alma_tree.specs.declared.leaf.Relation.{Relation}
@@ -163,10 +164,6 @@ operand_rules s o v =
 
 -- ---- sums, products and NOT
 
-abbrev pub any_logical : List Operator → Bool
-any_logical [] = false
-any_logical (o ∷ os) = is_logical o || any_logical os
-
 -- ConstRange: a constant operation that overflows or divides by zero
 abbrev pub has_no_value : Option Sign → Typing × Operands → Bool
 has_no_value sign p = not (is_some (chain_value sign p))
@@ -225,7 +222,7 @@ abbrev pub no_integer : Scene → Typing → Bool
 no_integer s t = not (has_integer s t.shape)
 
 abbrev pub is_char : ℤ → Bool
-is_char v = int_le (pos 0) v && int_le v (pos 255)
+is_char v = within char_range v
 
 abbrev pub no_char : Scene → Typing → Bool
 no_char s t = s.constant && has_integer s t.shape && not (holds is_char t.constant)

@@ -1,9 +1,10 @@
 // Classes of bytes, and the longest front of one class.
 ghost use Rattle.std.specs.Prelude.{◌≡◌, ◌++◌};
 ghost use Rattle.alma_base.specs.Bytes.{is_letter};
-ghost use Rattle.alma_base.specs.Reading.{is_blank, is_digit};
 ghost use Rattle.alma_scan.specs.Bytes.{is_quote, AllIn, Stops};
 ghost use Rattle.alma_scan.specs.Inner.Classes.{in_class};
+
+use alma_base::{is_blank, is_digit};
 
 /// A class of bytes.
 #[derive(Clone, Copy)]
@@ -22,24 +23,11 @@ pub fn is_letter(byte: u8) -> bool
     (b'A' <= byte && byte <= b'Z') || (b'a' <= byte && byte <= b'z') || byte == b'_'
 }
 
-/// `0` to `9`: a number begins with one, and a name may go on with one.
-pub fn is_digit(byte: u8) -> bool
-    ensures { result ≡ is_digit byte }
-{
-    b'0' <= byte && byte <= b'9'
-}
-
 /// `"` or `'`: a literal begins with one and ends at the next of the same sort.
 pub fn is_quote(byte: u8) -> bool
     ensures { result ≡ is_quote byte }
 {
     byte == b'"' || byte == b'\''
-}
-
-fn is_blank(byte: u8) -> bool
-    ensures { result ≡ is_blank byte }
-{
-    byte == b' ' || byte == b'\t' || byte == b'\r' || byte == b'\n'
 }
 
 fn is_in(class: Class, byte: u8) -> bool

@@ -6,10 +6,10 @@ ghost use Rattle.alma_scan.specs.Bytes.{Begins, AllIn, is_quote, value_of};
 ghost use Rattle.alma_scan.specs.Spellings.{greatest_number};
 ghost use Rattle.alma_scan.specs.Inner.Fronts.{IsGapEnd, IsFront, IsFrontOf, IsOtherFirst, IsSymbolAt};
 
-use crate::byte::{Class, is_digit, is_letter, is_quote, split_run};
+use crate::byte::{Class, is_letter, is_quote, split_run};
 use crate::gap::skip_two;
 use crate::spelling::{reserved_kind, symbol_kind};
-use alma_base::LexFault;
+use alma_base::{LexFault, is_digit};
 use alma_tree::Kind;
 
 /// A token, and the bytes behind it.

@@ -10,7 +10,7 @@ use crate::slots::{
     are_cells, are_numbers_of_any, is_slot, kind_of, kind_of_any, length_of, link_of, start_of,
 };
 use crate::words::words_of;
-use alma_code::{Instr, Word};
+use alma_code::{Instr, NO_CASE, NO_RETURN, Word};
 
 /// Rule 4 for one word: a slot word names a slot of the kind that the form states, and not the
 /// input position. All other words pass.
@@ -124,7 +124,7 @@ pub fn rule_12<R: CodeReader>(reader: &R, routine: u32, instr: Instr) -> bool
     match instr {
         Instr::ReturnValue { value: _ } => reader.has_result(routine),
         Instr::Return => !reader.has_result(routine),
-        Instr::Fault { number } => number == 5 || number == 6,
+        Instr::Fault { number } => number == NO_CASE || number == NO_RETURN,
         _ => true,
     }
 }

@@ -16,6 +16,6 @@ loop-end-preserved c =
         cc (cut_once 18446744073709551615 value digit, c.loop-end.invariant.passed.1),
         λ negative. c.loop-end.invariant.passed.2 negative
             ∙ one_digit_more input c.args.start end value negative c.loop-end.invariant.begun (omega arith)
-            (sym c.is_digit_byte.ensures ∙ c.if-is_digit_byte.true),
+            (sym c.is_digit.ensures ∙ c.if-is_digit.true),
       );
     }
