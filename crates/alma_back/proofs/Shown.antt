@@ -1,12 +1,12 @@
 -- What lines show, one after another.
 use Rattle.std.proofs.Common.{◌≡◌, ◌<◌, ◌≤◌, ◌+◌, ◌-◌, ◌∙◌, ℕ, zero, suc, List, [], ◌∷◌, ◌++◌, length, get_or, drop, refl, sym, ap, subst}
 use Rattle.std.proofs.Common.{arith, append_assoc}
-use Rattle.std.proofs.lemmas.List.{append-nil, drop_more, drop_all}
+use Rattle.std.proofs.lemmas.List.{drop_more}
 use Rattle.std.specs.Prelude.{true, false, Err}
 use Rattle.std.specs.Io.KnownBytes.{Appends}
 use Rattle.alma_io.specs.Outside.{Gains}
 use Rattle.alma_io.specs.Sides.{SinkSide}
-use Rattle.alma_io.proofs.Known.{appends_none, appends_trans}
+use Rattle.alma_io.proofs.Known.{appends_trans}
 use Rattle.alma_io.proofs.PartLemmas.{front_after, fails_after}
 use Rattle.alma_plan.specs.declared.stop.Stop.{Stop}
 use Rattle.alma_plan.specs.declared.stop.Stop.TheVariants.{Read, Write, Memory, TooLong}
@@ -39,10 +39,6 @@ pub record HasShown (old new : SinkSide) (all rest : List ℕ) : Type 0 where
   pub out : Appends old.written new.written done
   pub quiet : new.faults ≡ old.faults
 
--- nothing is out
-pub shown_none : (side : SinkSide) (all : List ℕ) → HasShown side side all all
-shown_none side all = record { done = []; all_is = refl; out = appends_none side.written; quiet = refl }
-
 -- the next line
 pub shown_next : (s : Standing) (lines : List read.Line) (i : ℕ) (line d : read.Line) → i < length lines → line ≡ get_or lines i d
     → lines_text s (lines_of (drop i lines)) ≡ line_text (after_line s (line_of line)) (line_of line)
@@ -70,10 +66,3 @@ module _ (old mid new : SinkSide) (all rest text behind : List ℕ) (h : HasShow
 
   pub shown_stop : (stop same : Stop) → same ≡ stop → Shows mid new text (Err stop) → Shows old new all (Err same)
   shown_stop stop same is x = subst (λ (s : Stop). Shows old new all (Err s)) (sym is) (stopped stop x)
-
--- all is out
-pub shown_all : (old new : SinkSide) (all : List ℕ) (s : Standing) (lines : List read.Line) (i : ℕ) → length lines ≤ i
-    → HasShown old new all (lines_text s (lines_of (drop i lines))) → Gains old new all
-shown_all old new all s lines i past h =
-    let none : all ≡ h.done = h.all_is ∙ ap (λ xs. h.done ++ lines_text s (lines_of xs)) (drop_all i lines past) ∙ append-nil h.done in
-    record { bytes_are = subst (λ (bytes : List ℕ). Appends old.written new.written bytes) (sym none) h.out; quiet = h.quiet }

@@ -1,11 +1,11 @@
 -- Scripts, text after text.
-use Rattle.std.proofs.Common.{◌≡◌, ◌<◌, ◌≤◌, ◌+◌, ◌-◌, ◌∙◌, ℕ, List, [], ◌∷◌, ◌++◌, length, get_or, take, drop, refl, sym, ap, arith}
+use Rattle.std.proofs.Common.{◌≡◌, ◌<◌, ◌≤◌, ◌+◌, ◌-◌, ◌∙◌, ℕ, List, [], ◌∷◌, ◌++◌, length, get_or, take, drop, refl, sym, ap}
 use Rattle.std.proofs.lemmas.Bool.{eq-eqb, ne_eqb}
-use Rattle.std.proofs.lemmas.List.{take_more, drop_more, drop_all, take_all, take_rest, map-append, length-map}
-use Rattle.std.specs.Prelude.{Bool, eqb, cond, None, Some, Result, Ok, Err}
+use Rattle.std.proofs.lemmas.List.{take_more, drop_more, drop_all, take_all, take_rest, map-append}
+use Rattle.std.specs.Prelude.{Bool, eqb, cond, Some, Result}
 use Rattle.alma_back.specs.declared.script.Line as read
 use Rattle.alma_back.specs.Inner.{line_of, lines_of, none_ended, one_ended}
-use Rattle.alma_back.specs.Script.{Line, Texts, with_byte, texts_in, all_read, one_more, lines_behind, line_in}
+use Rattle.alma_back.specs.Script.{Line, Texts, with_byte, texts_in, one_more, lines_behind, line_in}
 
 -- ---- the texts of a script
 
@@ -65,32 +65,11 @@ texts_none text at all before =
 abbrev pub behind : List Line → Texts → Result (List Line) ℕ
 behind got t = lines_behind t.ended t.left got
 
--- no text is left
-pub lines_end : (rest : List ℕ) (got : List Line) (r : Result (List Line) ℕ) → length rest ≡ 0 → r ≡ behind got (texts_in rest) → r ≡ Ok got
-lines_end [] got r none is = is
-lines_end (byte ∷ rest) got r none is = absurd (omega (arith, none))
-
--- the last has no line feed
-left_bad : (left : List ℕ) (got : List Line) → (length left ≡ 0 → ⊥) → all_read left got ≡ Err (length got + 1)
-left_bad [] got some = absurd (some refl)
-left_bad (byte ∷ left) got some = refl
-
-pub lines_cut : (rest : List ℕ) (got : List read.Line) (r : Result (List Line) ℕ) → (length rest ≡ 0 → ⊥) → texts_in rest ≡ none_ended rest
-    → r ≡ behind (lines_of got) (texts_in rest) → r ≡ Err (length got + 1)
-lines_cut rest got r some cut is =
-    is ∙ ap (behind (lines_of got)) cut ∙ left_bad rest (lines_of got) some ∙ ap (λ n. Err (n + 1)) (length-map got line_of)
-
 module _ (rest text more : List ℕ) (got : List read.Line) (r : Result (List Line) ℕ)
     (split : texts_in rest ≡ one_ended text (texts_in more))
     (is : r ≡ behind (lines_of got) (texts_in rest)) where
   one : r ≡ one_more (line_in text) (lines_behind (texts_in more).ended (texts_in more).left) (lines_of got)
   one = is ∙ ap (behind (lines_of got)) split
-
-  -- the next text is no line
-  pub lines_bad : None ≡ line_in text → r ≡ Err (length got + 1)
-  lines_bad none =
-      one ∙ ap (λ o. one_more o (lines_behind (texts_in more).ended (texts_in more).left) (lines_of got)) (sym none)
-      ∙ ap (λ n. Err (n + 1)) (length-map got line_of)
 
   -- it is one
   pub lines_more : (line : read.Line) → Some (line_of line) ≡ line_in text → r ≡ behind (lines_of (got ++ line ∷ [])) (texts_in more)

@@ -36,13 +36,6 @@ last-and-rest fs l =
     let up : length fs ≤ length fs - 1 + 1 = omega arith in
     sym (take_more fs (length fs - 1) no_frame lt) ∙ take_all (length fs - 1 + 1) fs up
 
--- a pop takes away the cells that its frame declares
-pub live-pop : (fs fs' : List PlainFrame) (g : PlainFrame) → fs' ≡ without_last fs → g ≡ last_frame fs → 1 ≤ length fs
-    → live_cells fs' + g.declared ≡ live_cells fs
-live-pop fs fs' g p o l =
-    let whole : without_last fs ++ g ∷ [] ≡ fs = rw o (last-and-rest fs l) in
-    rw p (sym (live-push (without_last fs) g) ∙ ap live_cells whole)
-
 -- whole frames stay whole where one is replaced by a whole one
 pub whole-set : (fs : List PlainFrame) (f : ℕ) (g : PlainFrame) → IsWhole g → AreWhole fs → AreWhole (set fs f g)
 whole-set [] f g w h = tt

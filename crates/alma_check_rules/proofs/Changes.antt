@@ -139,11 +139,5 @@ module _ (m : BTreeMap (ℕ × ℤ) ℤ) (base : ℕ) (low high : ℤ) (t : IsTo
         (either_by base b low x (is_eq (start_cmp (base, low) (b, x))) refl);
   }
 
-  pub topped_covers : Covers m base low high
-  topped_covers = record { start = low; end = high; noted = t.noted; begins = grind arith; reaches = grind arith }
-
-pub keeps_all : (m : BTreeMap (ℕ × ℤ) ℤ) → Keeps m m
-keeps_all m = record { keeps = λ b l h k. k }
-
 pub keeps_on : (m n k : BTreeMap (ℕ × ℤ) ℤ) → Keeps m n → Keeps n k → Keeps m k
 keeps_on m n k f g = record { keeps = λ b l h c. g.keeps b l h (f.keeps b l h c) }

@@ -104,12 +104,6 @@ module _ (m : BTreeMap (ℕ × ℤ) ℤ) where
   covers_drop_push (suc n) [] ys a b = covers_drop (suc n) ys b
   covers_drop_push (suc n) (x ∷ xs) ys a b = covers_drop_push n xs ys a b
 
-  -- the whole, and nothing
-  pub covers_whole : (n : ℕ) (xs : List Span) → length xs ≤ n → CoversAll m (take n xs) → CoversAll m xs
-  covers_whole n [] h a = tt
-  covers_whole zero (x ∷ xs) h a = absurd (omega (arith, h))
-  covers_whole (suc n) (x ∷ xs) h a = (a.0, covers_whole n xs (omega (arith, h)) a.1)
-
   pub covers_nothing : (n : ℕ) (xs : List Span) → length xs ≤ n → CoversAll m (drop n xs)
   covers_nothing zero [] h = tt
   covers_nothing (suc n) [] h = tt

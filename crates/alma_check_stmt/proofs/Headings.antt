@@ -236,11 +236,3 @@ scene_closed s r n params result m decls body shapes e =
     (decls_cleared (frame_of (read_heading s r n params result (tree.block m decls body))) (r + 1) decls
     (heading_empty s r n params result (tree.block m decls body) (r + 1) (decls_routines decls) e)
     ∙ head_same (λ (x : Scene). x.headings) headings_steady s r n params result (tree.block m decls body))
-
-pub inner_inside : (s : Scene) (r n : ℕ) (params : Option tree.Params) (result : Option tree.Name) (m : ℕ) (decls : tree.DeclTail)
-    (body : Option tree.Stmts)
-    → AreEmpty s.headings (r + 1) (decls_routines decls)
-    → AreEmptyInside (inner_frame s r n params result m decls body).scene.headings (r + 1) decls
-inner_inside s r n params result m decls body e =
-    read_inside (frame_of (read_heading s r n params result (tree.block m decls body))) (r + 1) decls
-    (heading_empty s r n params result (tree.block m decls body) (r + 1) (decls_routines decls) e)

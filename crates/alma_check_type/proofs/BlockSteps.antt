@@ -1,21 +1,16 @@
 -- What goes on as blocks begin and end, and what a look-up in the names of a block says.
-use Rattle.std.proofs.Common.{◌≡◌, ℕ, suc, ◌+◌, ◌-◌, ◌<◌, ◌≤◌, List, [], ◌∷◌, ◌++◌, Option, None, Some, Bool, true, false, cond, Vec}
-use Rattle.std.proofs.Common.{Global, length, get_or, take, map, set, refl, sym, ap, ◌∙◌, arith, eq-eqb, true≢false}
+use Rattle.std.proofs.Common.{◌≡◌, ℕ, ◌+◌, ◌-◌, ◌<◌, ◌≤◌, List, [], ◌∷◌, ◌++◌, None, Some, Bool, true, false, cond, Vec}
+use Rattle.std.proofs.Common.{Global, length, get_or, take, map, refl, sym, ap, ◌∙◌, arith, eq-eqb, true≢false}
 use Rattle.std.specs.Prelude.{bytes_eq, is_some, ◌||◌, nat_eq, ◌≢◌, map}
 use Rattle.std.specs.Map.{lookup}
 use Rattle.std.proofs.lemmas.List.{map-append, length-map, length_push, take_more, take_all}
 use Rattle.indexmap.specs.IndexMap.{insert_entry}
 use Rattle.alma_names.specs.Blocks.{DeclaredName}
 use Rattle.alma_names.specs.Scopes.{Blocks, entries_of, with_new_block, without_top_block}
-use Rattle.alma_rules.specs.Decls.{has_text, with_text, block_routines}
-use Rattle.alma_rules.specs.Scene.{Heading, Scene, first_token, is_first, text_at}
+use Rattle.alma_rules.specs.Decls.{has_text, with_text}
+use Rattle.alma_rules.specs.Scene.{Scene, first_token, is_first, text_at}
 use Rattle.alma_check_type.specs.Told.{IsCounted}
-use Rattle.alma_check_type.specs.Around.{clear}
-use Rattle.alma_check_type.specs.Outermost.{outermost}
-use Rattle.alma_rules.specs.Modules.{first_scene}
-use Rattle.alma_scan.specs.Tokens.{Lexeme}
 use Rattle.alma_tree.specs.declared.leaf.Name.{Name}
-use Rattle.alma_rules.specs.Answers.{first}
 use Rattle.alma_rules.specs.Numbered as tree
 
 -- ---- counts
@@ -162,15 +157,4 @@ name_new text token es key new h k n =
 
 -- ---- headings
 
-pub cleared_next : (first r : ℕ) (hs : List (Option Heading)) → first ≤ r
-    → clear first (r + 1 - first) hs ≡ set (clear first (r - first) hs) r None
-cleared_next first r hs le =
-    let n : r + 1 - first ≡ suc (r - first) = omega arith in
-    let m : first + (r - first) ≡ r = omega arith in
-    ap (λ k. clear first k hs) n ∙ ap (λ k. set (clear first (r - first) hs) k None) m
-
 -- ---- the outermost scene is that in which a module is judged
-
-pub first_outermost : (source : List ℕ) (tokens : List Lexeme) (m : tree.Module)
-    → outermost source tokens (1 + block_routines m.block) ≡ first_scene source tokens m
-first_outermost source tokens m = refl

@@ -120,29 +120,6 @@ bad_more : (b : Bool) (fs : List PlainField) (x : PlainField)
 bad_more true fs x = refl
 bad_more false fs x = refl
 
--- the name is new, or it is there already
-pub field_new : (tokens : List Lexeme) (es new : List (Vec ℕ Global × ℕ)) (before : List tree.Name) (x : tree.Name) (key : Vec ℕ Global)
-    (shape : ℕ) (f : Option BrokenRule) (b : Bool)
-    → Knows tokens es before → is_some (lookup (λ k. bytes_eq (text_in tokens x.token) k.items) es) ≡ false
-    → key.items ≡ text_in tokens x.token → new ≡ es ++ (key, shape) ∷ []
-    → a_fields f (unless_bad b (fields_view new)) ≡ with_field tokens before shape x (a_fields f (unless_bad b (fields_view es)))
-unfolding Knows
-field_new tokens es new before x key shape f b k none is n =
-    let gone : among tokens (text_in tokens x.token) before ≡ false = sym (k (text_in tokens x.token)) ∙ none in
-    rw (gone, n) (ap (a_fields f) (ap (unless_bad b) (map-append field_view es ((key, shape) ∷ []))
-    ∙ bad_more b (fields_view es) (field_view (key, shape))
-    ∙ ap (λ i. option_map (λ (l : List PlainField). l ++ record { name = i; offset = 0; shape = shape } ∷ [])
-    (unless_bad b (fields_view es))) is))
-
-pub field_twice : (tokens : List Lexeme) (es : List (Vec ℕ Global × ℕ)) (before : List tree.Name) (x : tree.Name) (shape : ℕ)
-    (t : ToldFields)
-    → Knows tokens es before → is_some (lookup (λ k. bytes_eq (text_in tokens x.token) k.items) es) ≡ true
-    → a_fields (earlier t.fault (Some (record { node = x.node; fault = fault.Redeclared }))) None ≡ with_field tokens before shape x t
-unfolding Knows
-field_twice tokens es before x shape t k some =
-    let there : among tokens (text_in tokens x.token) before ≡ true = sym (k (text_in tokens x.token)) ∙ some in
-    rw there refl
-
 -- ---- fields of one shape
 
 module _ (s : Scene) (shape : ℕ) where

@@ -13,8 +13,6 @@ use Rattle.alma_rules.specs.Scene.{Scene}
 use Rattle.alma_rules.specs.Judgement.{BrokenRule}
 use Rattle.alma_rules.specs.Types.{ShapeOrLimit, number_in, size_rules, row_on, rows_on}
 use Rattle.alma_check_type.specs.Told.{Told, told_with, told_at, told_type, a_told}
-use Rattle.alma_check_rules.specs.declared.env.Env.{Env}
-use Rattle.alma_check_rules.specs.Views.{scene_of, somewhere}
 use Rattle.alma_check_type.specs.Inner.Tables.{field_view, fields_view}
 
 -- ---- arrays
@@ -41,10 +39,6 @@ rows_next s f is n k p len lt h =
 
 -- ---- fields
 
--- the shapes and tokens of an environment are those of its scene
-pub shapes_of : (e : Env) (s : Scene) → scene_of e somewhere ≡ s → e.shapes ≡ s.shapes
-shapes_of e s h = ap (λ (i : Scene). i.shapes) h
-
 below_push : (n : ℕ) (xs : List FieldOf) (x : FieldOf) → AllBelow n (fields_of xs) → x.shape.0 < n → AllBelow n (fields_of (xs ++ x ∷ []))
 below_push n [] x h lt = (lt, tt)
 below_push n (y ∷ ys) x h lt = (h.0, below_push n ys x h.1 lt)
@@ -57,9 +51,6 @@ fields_push (y ∷ ys) x = ap (λ fs. field_of y ∷ fs) (fields_push ys x)
 pub record IsListed (n k : ℕ) (es : List (Vec ℕ Global × ℕ)) (xs : List FieldOf) : Type 0 where
   pub list : fields_of xs ≡ fields_view (take k es)
   pub below : AllBelow n (fields_of xs)
-
-pub listed_none : (n : ℕ) (es : List (Vec ℕ Global × ℕ)) (xs : List FieldOf) → xs ≡ [] → IsListed n 0 es xs
-listed_none n es xs h = rw h (record { list = refl; below = tt })
 
 pub listed_more : (n k : ℕ) (es : List (Vec ℕ Global × ℕ)) (xs ys : List FieldOf) (x : FieldOf) (e : Vec ℕ Global × ℕ) → IsListed n k es xs
     → slice_get es k ≡ Some e

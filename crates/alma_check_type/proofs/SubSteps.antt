@@ -12,7 +12,7 @@ use Rattle.alma_rules.specs.Types.{subrange_of}
 use Rattle.alma_check_type.specs.declared.reading.Bound.{Bound}
 use Rattle.alma_check_type.specs.Told.{told, told_both, told_at, told_change, told_sub, earlier, bound_of, a_told, sub_of, pair_rules}
 use Rattle.alma_check_type.specs.Told.{first_rule}
-use Rattle.alma_check_type.proofs.Tells.{then_told, at_told, change_told, earlier_none}
+use Rattle.alma_check_type.proofs.Tells.{then_told, at_told, change_told}
 
 by_bounds : (n : ℕ) (s : Scene) (f : Option BrokenRule) (v w : Option Typing)
     → told_change subrange_of (told_at n (subrange_rules s) (a_told f s (both_of v w))) ≡ told_sub n
@@ -47,12 +47,3 @@ module _ (n : ℕ) (s : Scene) (f : Option BrokenRule) (p : Bound × Bound) wher
           (a_told (earlier f (first (broken_at n rules))) s (unless rules (Some p)))
       go [] h = absurd (cc)
       go (r ∷ rs) h = let e : rule ≡ r = cc in rw e refl
-
-  pub sub_fine : None ≡ first_rule (pair_rules s p) → told_sub n (a_told f s (Some p)) ≡ a_told f (sub_of s p).0 (Some (sub_of s p).1)
-  sub_fine h = go (pair_rules s p) h
-    where
-      go : (rules : List CheckFault) → None ≡ first_rule rules
-          → told_change sub_of (a_told (earlier f (first (broken_at n rules))) s (unless rules (Some p))) ≡ a_told f (sub_of s p).0
-          (Some (sub_of s p).1)
-      go [] h = ap (λ x. a_told x (sub_of s p).0 (Some (sub_of s p).1)) (earlier_none f)
-      go (r ∷ rs) h = absurd (cc)

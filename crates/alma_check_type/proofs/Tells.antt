@@ -4,10 +4,9 @@ use Rattle.std.specs.Prelude.{option_map}
 use Rattle.alma_base.specs.declared.fault.CheckFault.{CheckFault}
 use Rattle.alma_rules.specs.Judgement.{BrokenRule, both_of, broken_at, unless}
 use Rattle.alma_rules.specs.Numbered as tree
-use Rattle.alma_rules.specs.Scene.{Scene, Found, found}
+use Rattle.alma_rules.specs.Scene.{Scene}
 use Rattle.alma_rules.specs.Answers.{first}
-use Rattle.alma_rules.specs.Types.{Reading, reading_then, reading_at, reading_change, with_change, type_name_rules, shape_in}
-use Rattle.alma_rules.specs.Types.{read_type_name}
+use Rattle.alma_rules.specs.Types.{Reading, reading_then, reading_at, reading_change, with_change}
 use Rattle.alma_rules.specs.Types.{ShapeOrLimit, cons_index}
 use Rattle.alma_check_type.specs.Told.{Told, told, told_both, told_with, told_at, told_changed, told_change, earlier, onward, join, alone}
 use Rattle.alma_check_type.specs.Told.{a_told}
@@ -79,11 +78,6 @@ onward_cons f v a b =
     ∙ onward_both f v (told_with alone a) b
 
 -- ---- the names of types
-
-pub name_told : (s : Scene) (name : tree.Name) (f : Found) → f ≡ found s name
-    → told (read_type_name s name) ≡ a_told (first (broken_at name.node (type_name_rules f (shape_in f)))) s
-    (unless (type_name_rules f (shape_in f)) (shape_in f))
-name_told s name f h = rw h refl
 
 -- for tactics
 pub ruleset steps = (first_joined, earlier_none)

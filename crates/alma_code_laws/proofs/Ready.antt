@@ -11,7 +11,6 @@ use Rattle.alma_code.specs.declared.cell.CellPlace.{CellPlace}
 use Rattle.alma_code.specs.declared.cell.SlotKind.{SlotKind}
 use Rattle.alma_code.specs.declared.cell.SlotKind.TheVariants as slot
 use Rattle.alma_base.specs.declared.number.Range.{Range}
-use Rattle.alma_code.specs.declared.step.Step.{Step}
 use Rattle.alma_code.specs.declared.step.End.{End}
 use Rattle.alma_base.specs.declared.fault.RunFault.{RunFault}
 use Rattle.alma_base.specs.declared.fault.RunFault.TheVariants as fault
@@ -23,7 +22,7 @@ use Rattle.alma_code.specs.Plain.{PlainCode, kinds_at}
 use Rattle.alma_base.specs.Numbers.{within, is_integer, int_eq}
 use Rattle.alma_code.specs.Kinds.{is_number, is_place, is_mark, is_link}
 use Rattle.alma_code.specs.Rules.{place_length, link_routine, kind_in, is_free, is_address}
-use Rattle.alma_code.specs.Machine.{Going, State, StepResult, quiet_step, ends_run, ends_in_fault, fails_now, answers_with, top, slot_of}
+use Rattle.alma_code.specs.Machine.{Going, State, StepResult, quiet_step, ends_run, ends_in_fault, fails_now, top, slot_of}
 use Rattle.alma_code.specs.Machine.{kind_of, as_number, as_place, as_mark, number, place, mark, with_cell, with_slot, to_number, to_place}
 use Rattle.alma_code.specs.Machine.{to_mark, put_number, put_place, put_mark, integer_result, as_content, content, store}
 use Rattle.alma_code.specs.Machine.{with_known_content, as_range, range_check, optional_range_check, equation_of_contents, equation}
@@ -85,10 +84,6 @@ module _ (code : PlainCode) where
     held = h.held;
     mode = subst (λ m. FitsMode code m s) (sym h.going) (subst (λ q. is_address code q s.at ≡ true) (sym h.routine) at);
   }
-
-  -- the machine goes on with an answer
-  pub answered_good : (r : ℕ) (s : State) (a : Step) → Ready r s → is_address code r s.at ≡ true → Good (answers_with a s)
-  answered_good r s a h at = went_good r s h at
 
   -- the machine ends
   pub ended_good : (r : ℕ) (s : State) (e : End) → Ready r s → Good (ends_run e s)

@@ -35,10 +35,6 @@ module _ (Asks : List (List ℕ) → Type 0) where
       by (inr no_less) (inl more) = absurd (none_before words k j other one more)
       by (inr no_less) (inr no_more) = omega (arith, no_less, no_more)
 
-  -- words with a bad word are no request
-  pub bad_no_request : (words : List (List ℕ)) (k : ℕ) → IsBadWord Asks words k → Asks words → ⊥
-  bad_no_request words k bad = bad.none
-
   -- words that begin a request, and one behind them with which they begin none
   pub bad_behind : (front : List (List ℕ)) (word : List ℕ) (rest : List (List ℕ)) → Begins Asks front
       → (Begins Asks (front ++ word ∷ []) → ⊥)

@@ -14,7 +14,7 @@ use Rattle.alma_driver_words.specs.Words.{IsFileName, NamesLines, Options, defau
 use Rattle.alma_driver_words.specs.Limits.{IsWithinLimits}
 use Rattle.alma_driver_words.specs.Inner.Commands.{word_of}
 use Rattle.alma_driver_words.specs.Inner.Settings.{AreOptions, IsBadOption, ReadsOptions}
-use Rattle.alma_driver_words.specs.Inner.Names.{LacksName, ReadsOne}
+use Rattle.alma_driver_words.specs.Inner.Names.{LacksName}
 use Rattle.alma_driver_words.proofs.BadWords.{take_begins}
 use Rattle.alma_driver_words.proofs.SettingLemmas.{no_options, options_front, without_names, without_stats, one_meaning, options_within}
 use Rattle.alma_driver_words.proofs.SettingLemmas.{names_within}
@@ -340,14 +340,6 @@ pub bad_trace_option : (name : List ℕ) (words : List (List ℕ)) (index : ℕ)
 bad_trace_option name words index h bad = bad_option commands.Trace 0 greatest_watches name words index (trace_takes name h) bad
 
 -- ---- what a `?` hands on
-
-pub check_error : (words : List (List ℕ)) (e : WordsError) → ReadsOne words (Err e) → Reads (codes "check" ∷ words) (Err e)
-check_error words (Bad k) h = h.0
-check_error words Memory h = tt
-
-pub list_error : (words : List (List ℕ)) (e : WordsError) → ReadsOne words (Err e) → Reads (codes "list" ∷ words) (Err e)
-list_error words (Bad k) h = h.1
-list_error words Memory h = tt
 
 pub run_error : (name : List ℕ) (words : List (List ℕ)) (e : WordsError) → IsFileName name
     → ReadsOptions (record { stats = true; watches = 0 }) words (Err e)

@@ -1,6 +1,6 @@
 -- Marks of routines.
-use Rattle.std.proofs.Common.{◌≡◌, ℕ, zero, suc, ◌+◌, ◌-◌, ◌<◌, ◌≤◌, inl, inr, Bool, true, false, List, [], ◌∷◌, ◌++◌, length, get_or, take}
-use Rattle.std.proofs.Common.{drop, set, map, refl, sym, ap, ◌∙◌, arith, replicate}
+use Rattle.std.proofs.Common.{◌≡◌, ℕ, ◌+◌, ◌-◌, ◌<◌, ◌≤◌, inl, inr, Bool, true, false, List, [], ◌∷◌, ◌++◌, length, get_or, take}
+use Rattle.std.proofs.Common.{drop, set, map, refl, sym, ap, ◌∙◌, arith}
 use Rattle.std.specs.Prelude.{nat_eq, ◌||◌, ◌&&◌, not, sum_by}
 use Rattle.std.specs.List.{list_any}
 use Rattle.std.proofs.lemmas.Bool.{eq-eqb, cases_eq, cases_lt}
@@ -19,22 +19,9 @@ use Rattle.alma_ir.specs.Tree.{Routine, Program, routine_at, no_routine}
 use Rattle.alma_ir.specs.View.{routine_of, program_of, stmts_list}
 use Rattle.alma_join.specs.Joined.{is_empty, is_bare}
 use Rattle.alma_join.specs.Bare.{MarksOuter, MarksBare}
-use Rattle.alma_join.proofs.Rows.{sum_rest, sum_none, element_is, any_default}
+use Rattle.alma_join.proofs.Rows.{sum_none, element_is, any_default}
 
 -- ---- slots that parameters leave
-
--- a parameter takes more than what is left
-pub filled_over : (params : List Param) (i slots left : ℕ) (q : Param) → i < length params → q ≡ get_or params i q
-    → slots + sum_by param_slots (drop i params) ≡ left + sum_by param_slots params
-    → left < param_slots q → false ≡ nat_eq slots (sum_by param_slots params)
-filled_over params i slots left q within is kept over =
-    let lt : slots < sum_by param_slots params = omega (arith, sum_rest param_slots params i q within is, kept, over) in
-    grind (arith, nat_tests, lt)
-
-pub filled_more : (params : List Param) (i slots left : ℕ) (q : Param) → i < length params → q ≡ get_or params i q
-    → slots + sum_by param_slots (drop i params) ≡ left + sum_by param_slots params
-    → param_slots q ≤ left → slots + sum_by param_slots (drop (i + 1) params) ≡ (left - param_slots q) + sum_by param_slots params
-filled_more params i slots left q within is kept fits = omega (arith, sum_rest param_slots params i q within is, kept, fits)
 
 pub filled : (params : List Param) (i slots left : ℕ) → length params ≤ i
     → slots + sum_by param_slots (drop i params) ≡ left + sum_by param_slots params
@@ -55,15 +42,6 @@ stands_in r x = nat_eq x.outer r
 pub record MarksFirst (routines : List memory.Routine) (i : ℕ) (marks : List Bool) : Type 0 where
   pub long : length marks ≡ length routines
   pub at : (r : ℕ) → r < length routines → get_or marks r false ≡ list_any (stands_in r) (map routine_of (take i routines))
-
-no_marks : (n r : ℕ) → get_or (replicate n false) r false ≡ false
-no_marks zero r = refl
-no_marks (suc n) zero = refl
-no_marks (suc n) (suc r) = no_marks n r
-
-pub marks_none : (routines : List memory.Routine) (marks : List Bool) (n : ℕ) → marks ≡ replicate n false → length marks ≡ length routines
-    → MarksFirst routines 0 marks
-marks_none routines marks n is long = record { long = long; at = λ r lt. ap (λ m. get_or m r false) is ∙ no_marks n r }
 
 one_more : (routines : List memory.Routine) (i r : ℕ) (x : memory.Routine) → i < length routines → x ≡ get_or routines i x
     → list_any (stands_in r) (map routine_of (take (i + 1) routines))
@@ -103,17 +81,6 @@ marks_more routines i x marks within is h lt = record { long = length-set marks 
           ∙ sym (one_more routines i r x within is)
     ]
 
-pub marks_past : (routines : List memory.Routine) (i : ℕ) (x : memory.Routine) (marks : List Bool) → i < length routines
-    → x ≡ get_or routines i x → MarksFirst routines i marks → length marks ≤ x.outer
-    → MarksFirst routines (i + 1) marks
-marks_past routines i x marks within is h past = record { long = h.long; at = by }
-  where
-    by : (r : ℕ) → r < length routines → get_or marks r false ≡ list_any (stands_in r) (map routine_of (take (i + 1) routines))
-    by r below =
-        let differ : nat_eq x.outer r ≡ false = let ne : r < x.outer = omega (arith, h.long, past, below) in grind (arith, nat_tests, ne) in
-        h.at r below ∙ or_none _ ∙ ap (λ b. list_any (stands_in r) (map routine_of (take i routines)) || b) (sym differ)
-        ∙ sym (one_more routines i r x within is)
-
 pub marks_all : (routines : List memory.Routine) (i : ℕ) (marks : List Bool) → length routines ≤ i → MarksFirst routines i marks
     → MarksOuter (map routine_of routines) marks
 marks_all routines i marks past h = record {
@@ -132,9 +99,6 @@ empty_is (x ∷ xs) = let some : 0 < length (x ∷ xs) = omega arith in grind (a
 pub record BareFirst (p : Program) (i : ℕ) (marks : List Bool) : Type 0 where
   pub long : length marks ≡ i
   pub at : (r : ℕ) → r < i → get_or marks r false ≡ is_bare p r (routine_at p r)
-
-pub bare_none : (p : Program) → BareFirst p 0 []
-bare_none p = record { long = refl; at = λ r lt. absurd (omega (arith, lt)) }
 
 pub bare_more : (p : Program) (i : ℕ) (marks longer : List Bool) (b : Bool) → BareFirst p i marks → longer ≡ marks ++ b ∷ []
     → b ≡ is_bare p i (routine_at p i) → BareFirst p (i + 1) longer
@@ -163,9 +127,6 @@ bare_here p r x marks m within is h e =
     ((e ∙ any_default marks r m false (omega (arith, within, h.long, length-map p.routines.items routine_of))
     ∙ h.at r (omega (arith, within, length-map p.routines.items routine_of))) i))))
     ∙ ap (is_bare (program_of p) r) (sym there)
-
-pub bare_all : (p : Program) (i : ℕ) (marks : List Bool) → i ≡ length p.routines → BareFirst p i marks → MarksBare p marks
-bare_all p i marks whole h = record { long = h.long ∙ whole; at = λ r lt. h.at r (omega (arith, lt, whole)) }
 
 -- what a mark says
 pub bare_by : (p : whole.Program) (r : ℕ) (marks : List Bool) (m b : Bool) → r < length p.routines.items → MarksBare (program_of p) marks

@@ -9,20 +9,11 @@ use Rattle.alma_base.specs.Carry.{Carry, with_changes}
 use Rattle.alma_base.specs.declared.number.Range.{Range}
 use Rattle.alma_base.specs.declared.fault.RunFault.{RunFault}
 use Rattle.alma_mean.specs.Store.{Store, Cell, Unknown, Number, At, put, put_all, over, changes, without_top}
-use Rattle.alma_mean.specs.Events.{Events, NoYield, Visit, Print, Alt, Flow, Go, Return, one, join, bind, visit_each, at_line, node}
+use Rattle.alma_mean.specs.Events.{Events, NoYield, Flow, Go, Return, one, join, bind, visit_each, at_line, node}
 use Rattle.alma_mean.specs.Events.{on_first}
 use Rattle.alma_mean.specs.Arithmetic.{fault_unless}
 use Rattle.alma_mean.specs.Rows.{read_cell, try_labels, forall_row, as_test, function_value}
 use Rattle.alma_listing.specs.Alike.{Alike, on_visit, on_print, on_alt, at_fail, at_fault, at_cut}
-
--- they are one list
-pub one_list : {A : Type 0} {n : ℕ} {G : Type 0} {e f : Events A} → Alike A n G e f → e ≡ f
-one_list (on_visit h) = ap Visit (one_list h)
-one_list (on_print {b = b} h) = ap (Print b) (one_list h)
-one_list (on_alt {s = s} {w = w} l g h) = ap (Alt s w) (one_list h)
-one_list at_fail = refl
-one_list at_fault = refl
-one_list at_cut = refl
 
 -- a stronger premise
 pub under : {A : Type 0} {n : ℕ} {G G2 : Type 0} {e f : Events A} → (G2 → G) → Alike A n G e f → Alike A n G2 e f

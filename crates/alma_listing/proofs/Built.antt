@@ -166,12 +166,6 @@ pub routines_are : {X Y Z : Type 0} (f : Y → Z) (g : X → Z) (z w : Z) (xs : 
 routines_are f g z w xs i ys new y end before last push =
     ap (map f) push ∙ map-append f ys (y ∷ []) ∙ (λ k. (before ∙ ap (λ l. z ∷ map g l) (take_all i xs end)) k ++ (last k ∷ []))
 
--- a list with its first taken off
-pub first_and_rest : {X : Type 0} (xs : List X) (x : X) (rest : List X) → 0 < length xs → x ≡ get_or xs 0 x → rest ≡ take (length xs - 1)
-    (drop 1 xs) → xs ≡ x ∷ rest
-first_and_rest [] x rest some is behind = absurd (omega (arith, some))
-first_and_rest (y ∷ ys) x rest some is behind = λ i. sym is i ∷ (sym (take_all (length (y ∷ ys) - 1) ys (omega arith)) ∙ sym behind) i
-
 names_long : (rs : List Routine) → AllByRecursion (λ r. IsName r.name) rs → length rs ≤ sum_by (λ r. length r.name) rs
 names_long [] h = omega arith
 names_long (r ∷ rs) h = omega (arith, sum_by-cons (λ r. length r.name) r rs, names_long rs h.1, name_some r.name h.0)

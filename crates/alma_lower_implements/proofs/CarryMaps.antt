@@ -9,10 +9,6 @@ use Rattle.alma_base.specs.Choice.{if_true}
 
 -- ---- a choice
 
-pub if_so : {A : Type 0} (b : Bool) (f g : Unit {0} → A) → b ≡ true → if_true b f g ≡ f tt
-if_so true f g e = refl
-if_so false f g e = absurd (cc)
-
 pub if_not : {A : Type 0} (b : Bool) (f g : Unit {0} → A) → b ≡ false → if_true b f g ≡ g tt
 if_not true f g e = absurd (cc)
 if_not false f g e = refl
@@ -163,7 +159,3 @@ module _ {C : Type 0} where
       assoc : (a b c : Bool) → a || (b || c) ≡ (a || b) || c
       assoc true b c = refl
       assoc false b c = refl
-
-  pub only_both : (f s : ℕ) (c : C) (xs ys : List (Change C)) → Only f s c xs → Only f s c ys → Only f s c (xs ++ ys)
-  only_both f s c [] ys h k = k
-  only_both f s c (x ∷ xs) ys h k = (h.0, only_both f s c xs ys h.1 k)

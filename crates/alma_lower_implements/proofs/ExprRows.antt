@@ -1,25 +1,22 @@
 -- The rows of expressions and designators: each is what its code does, given what its parts do.
-use Rattle.std.proofs.Common.{◌≡◌, ℕ, suc, ◌+◌, ◌<◌, ◌≤◌, true, List, ◌∷◌, ◌++◌, length, Some, refl, sym, ap, ◌∙◌, subst, arith, ℤ}
+use Rattle.std.proofs.Common.{◌≡◌, ℕ, suc, ◌+◌, ◌<◌, ◌≤◌, List, ◌∷◌, ◌++◌, length, Some, sym, ap, ◌∙◌, subst, arith}
 use Rattle.std.proofs.Common.{length-append}
 use Rattle.std.specs.Prelude.{slice_get}
 use Rattle.std.proofs.lemmas.List.{get_or_append_left, get_or-append-add}
-use Rattle.std.proofs.lemmas.Option.{slice_get-get_or, slice_get_within, get_or_from_slice_get}
-use Rattle.alma_base.specs.Numbers.{is_integer}
-use Rattle.alma_code.specs.declared.cell.Cell.{Cell}
+use Rattle.std.proofs.lemmas.Option.{slice_get-get_or, slice_get_within}
 use Rattle.alma_code.specs.declared.cell.Cell.TheVariants as cell
-use Rattle.alma_code.specs.declared.cell.CellPlace.{CellPlace}
 use Rattle.alma_code.specs.declared.cell.SlotKind.{SlotKind}
 use Rattle.alma_code.specs.declared.cell.SlotKind.TheVariants as slot
 use Rattle.alma_code.specs.Picture.{PlainFrame, PlainEntry, last_frame}
 use Rattle.alma_code.specs.Plain.{PlainCode, kinds_at}
 use Rattle.alma_code.specs.Machine.{State}
 use Rattle.alma_ir.specs.Tree.{Program, routine_at}
-use Rattle.alma_mean.specs.Store.{Store, Place, top_frame}
-use Rattle.alma_mean.specs.Events.{Events, Flow, Go, Return, node}
-use Rattle.alma_lower_implements.proofs.Goes.{Silently, IsGoing, Goes, before, node_goes}
-use Rattle.alma_lower_implements.proofs.Frames.{shift, own_end, StandFor, Fits, AreNumbers, SamePlace, HasSlots, IsAt}
+use Rattle.alma_mean.specs.Store.{Store, top_frame}
+use Rattle.alma_mean.specs.Events.{Events, Flow}
+use Rattle.alma_lower_implements.proofs.Goes.{Silently, Goes, before}
+use Rattle.alma_lower_implements.proofs.Frames.{shift, own_end, StandFor, Fits, HasSlots, IsAt}
 use Rattle.alma_lower_implements.proofs.FrameLemmas.{top_same, fits_on}
-use Rattle.alma_lower_implements.proofs.Steps.{Holds, HasKind}
+use Rattle.alma_lower_implements.proofs.Steps.{HasKind}
 
 module _ (p : Program) (code : PlainCode) (input : List ℕ) where
   -- ---- where a phrase leaves off
@@ -40,17 +37,6 @@ module _ (p : Program) (code : PlainCode) (input : List ℕ) where
   pub record Stays (b : Begun) (v : Store) (t : State) : Type 0 where
     pub same : v ≡ b.store
     pub none : t.held ≡ b.entries
-
-  -- the value in its slot, a number of INTEGER
-  abbrev pub LeavesValue : (exit lo r : ℕ) → Begun → Store → Flow ℤ → State → Type 0
-  LeavesValue exit lo r b v (Go x) t = Left exit lo r b.frames v t × Holds t.now lo (cell.Int x) × (is_integer x ≡ true) × Stays b v t
-  LeavesValue exit lo r b v (Return n) t = ⊥
-
-  -- the place of one cell in its slot
-  abbrev pub LeavesPlace : (exit lo r : ℕ) → Begun → Store → Flow Place → State → Type 0
-  LeavesPlace exit lo r b v (Go q) t = Left exit lo r b.frames v t × AreNumbers p code v t.now q × (0 < q.size)
-      × ((c : CellPlace) × SamePlace p v q c × Holds t.now lo (cell.Place c)) × Stays b v t
-  LeavesPlace exit lo r b v (Return n) t = ⊥
 
   abbrev pub begun : Store → List PlainFrame → List PlainEntry → Begun
   begun v now held = record { store = v; frames = now; entries = held }
@@ -124,26 +110,11 @@ module _ (p : Program) (code : PlainCode) (input : List ℕ) where
 
   -- ---- what a part has left is where the next part begins
 
-  pub left_is_at : (exit lo r : ℕ) (before : List PlainFrame) (v : Store) (t : State) (held : List PlainEntry) → IsGoing held t
-      → Left exit lo r before v t → IsAt exit t.now held t
-  left_is_at exit lo r before v t held going left = record { mode = going.mode; here = left.here; frames = refl; entries = going.entries }
-
   -- one phrase after another, in words of where they leave off
   pub left_on : (exit exit' lo lo' r : ℕ) (before : List PlainFrame) (v v' : Store) (t t' : State) → lo ≤ lo' → Left exit lo r before v t
       → Left exit' lo' r t.now v' t' → Left exit' lo r before v' t'
   left_on exit exit' lo lo' r before v v' t t' le a b =
       record { here = b.here; fits = fits_on p code lo lo' v v' before t.now t'.now le a.fits b.fits; routine = b.routine }
-
-  -- a slot of the phrases before keeps what it holds
-  pub kept_slot : (exit lo r n : ℕ) (c : Cell) (v v' : Store) (now : List PlainFrame) (t : State) → StandFor p code v now
-      → (top_frame v).routine ≡ r → own_end p r ≤ n → n < lo → Left exit lo r now v' t → Holds now n c → Holds t.now n c
-  kept_slot exit lo r n c v v' now t stand routine behind lt left h =
-      let same = top_same p code v now stand in
-      let is : own_end p (last_frame now).routine ≡ own_end p r = ap (own_end p) (sym same.routine ∙ routine) in
-      let within : n < length (last_frame now).cells = slice_get_within (last_frame now).cells n c h in
-      let later : n < length (last_frame t.now).cells = omega (arith, within, left.fits.top.long) in
-      slice_get-get_or (last_frame t.now).cells n cell.Unset later
-      ∙ ap Some (left.fits.top.cells n (omega (arith, is, behind)) lt ∙ get_or_from_slice_get (last_frame now).cells n c cell.Unset h)
 
 -- inside a statement with this line
 module _ (p : Program) (code : PlainCode) (input : List ℕ) (line : ℕ) where
@@ -153,25 +124,6 @@ module _ (p : Program) (code : PlainCode) (input : List ℕ) (line : ℕ) where
   RunsFrom at r leaves f q = (v : Store) (now : List PlainFrame) (held : List PlainEntry) (s : State) → IsAt at now held s
       → StandFor p code v now → (top_frame v).routine ≡ r
       → Goes code input line 8 0 (leaves (begun p code input v now held)) held (f v) s 0 q
-
-  abbrev pub RunsExpr : (at exit lo r : ℕ) → (Store → Events ℤ) → (q : ℕ) → Type 0
-  RunsExpr at exit lo r f q = RunsFrom at r (LeavesValue p code input exit lo r) f q
-
-  abbrev pub RunsPlace : (at exit lo r : ℕ) → (Store → Events Place) → (q : ℕ) → Type 0
-  RunsPlace at exit lo r f q = RunsFrom at r (LeavesPlace p code input exit lo r) f q
-
-  -- inside of a node: its own visit has paid for 32 steps, and so will the one before each alternative
-  abbrev pub InsideOf : {A : Type 0} → (at r : ℕ) → (leaves : Begun p code input → Store → Flow A → State → Type 0) → (Store → Events A)
-      → (q : ℕ) → Type 0
-  InsideOf at r leaves f q = (v : Store) (now : List PlainFrame) (held : List PlainEntry) (s : State) → IsAt at now held s
-      → StandFor p code v now → (top_frame v).routine ≡ r
-      → Goes code input line 0 24 (leaves (begun p code input v now held)) held (f v) s 32 q
-
-  pub as_node : {A : Type 0} (at r : ℕ) (leaves : Begun p code input → Store → Flow A → State → Type 0) (f : Store → Events A) (q : ℕ)
-      → InsideOf at r leaves f q → RunsFrom at r leaves (λ v. node (f v)) q
-  as_node at r leaves f q h v now held s is stand routine =
-      node_goes code input line 0 8 24 (leaves (begun p code input v now held)) held (f v) s 0 q (omega arith)
-      (h v now held s is stand routine)
 
   -- one step more
   pub one_more : {A : Type 0} (left more : ℕ) (fits : Store → Flow A → State → Type 0) (base : List PlainEntry) (e : Events A) (s t : State)

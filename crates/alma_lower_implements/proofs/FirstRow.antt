@@ -9,12 +9,12 @@ use Rattle.alma_code.specs.Plain.{PlainCode}
 use Rattle.alma_code.specs.Machine.{State}
 use Rattle.alma_mean.specs.Store.{Store}
 use Rattle.alma_mean.specs.Events.{Events, NoYield, Flow, Go, Return, Fail, one, on_first}
-use Rattle.alma_lower_implements.proofs.Goes.{weaker, IsGoing, Goes, no_step, and_then, before, first_goes, one_goes}
+use Rattle.alma_lower_implements.proofs.Goes.{IsGoing, Goes, no_step, and_then, before, first_goes, one_goes}
 use Rattle.alma_lower_implements.proofs.Address.{at_address}
 use Rattle.alma_lower_implements.proofs.Frames.{IsAt}
 use Rattle.alma_lower_implements.proofs.Steps.{InstrAt, top_written, Holds, HasKind}
 use Rattle.alma_lower_implements.proofs.ChoiceSteps.{branch_entry, choose_step, pop_step, mark_step, cut_step}
-use Rattle.alma_lower_implements.proofs.Ways.{Ways, Leaves, Runs, Inside}
+use Rattle.alma_lower_implements.proofs.Ways.{Ways, Leaves, Runs}
 
 module _ (code : PlainCode) (input : List ℕ) where
   -- an alternative keeps the mark, and none leaves by RETURN
@@ -97,13 +97,3 @@ module _ (code : PlainCode) (input : List ℕ) where
           (record { mode = z.is.mode; entries = z.is.entries })
           (z.is.here, subst (w2.goes v tt) (sym z.is.frames) (less (length held) v y t.now left.1)))
       on_alternative v (Return k) t above going left = absurd ((keeps (length held)).stays v k t.at t.now left)
-
-  pub commit_row : (line at n m : ℕ) (now : List PlainFrame) (w : ℕ → Ways NoYield) (w2 : Ways NoYield) (e : Events NoYield) (q : ℕ)
-      → InstrAt code input line at (I.Mark m) → InstrAt code input line n (I.Cut m) → HasKind now m slot.Mark
-      → ((h : ℕ) → Runs code input line (at + 1) n (top_written now m (cell.Mark h)) (w h) e q)
-      → ((h : ℕ) → KeepsMark m h (w h))
-      → ((h : ℕ) (v : Store) (y : NoYield) (t : List PlainFrame) → (w h).goes v y t → w2.goes v tt t)
-      → Inside code input line at (n + 1) now w2 (on_first e (λ t _. one t tt) (λ _. Fail)) q
-  commit_row line at n m now w w2 e q mark cut kind runs keeps less held s is =
-      weaker code input line 0 24 (Leaves (n + 1) w2) held (on_first e (λ t _. one t tt) (λ _. Fail)) s 32 9 q q (omega arith) (omega arith)
-      (commit_goes line at n m now w w2 e q mark cut kind runs keeps less held s is)

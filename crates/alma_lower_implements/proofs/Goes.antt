@@ -309,30 +309,6 @@ module _ (code : PlainCode) (input : List ℕ) (line : ℕ) where
 
   -- ---- some steps after each alternative, or another word for where it leaves off
 
-  pub then_goes : {A : Type 0} (left left2 more j : ℕ) (fits fits2 : Store → Flow A → State → Type 0) (base : List PlainEntry)
-      (e : Events A) (s : State) (r q : ℕ) → left2 + j ≤ left
-      → ((v : Store) (w : Flow A) (t : State) (held : List PlainEntry) → IsGoing held t → fits v w t → (u : State)
-      × Silently code input j t u × IsGoing held u × fits2 v w u)
-      → Goes left more fits base e s r q → Goes left2 more fits2 base e s r q
-  then_goes left left2 more j fits fits2 base Fail s r q le k h = h
-  then_goes left left2 more j fits fits2 base (Fault x own) s r q le k h = h
-  then_goes left left2 more j fits fits2 base Cut s r q le k h = h
-  then_goes left left2 more j fits fits2 base (Visit e) s r q le k h = then_goes left left2 more j fits fits2 base e s (r + 32) q le k h
-  then_goes left left2 more j fits fits2 base (Print bytes e) s r q le k h =
-      (h.0, h.1, h.2, h.3, h.4, h.5, h.6, then_goes left left2 more j fits fits2 base e h.4 (r - suc h.0) (q - suc h.0) le k h.7)
-  then_goes left left2 more j fits fits2 base (Alt v w e) s r q le k h =
-      let more_steps = k v w h.1 (base ++ h.4) h.5 h.6 in (
-        h.0 + j,
-        more_steps.0,
-        omega (arith, h.2),
-        and_then code input h.3 more_steps.1,
-        h.4,
-        more_steps.2,
-        more_steps.3,
-        λ base2 u like failing. weaker left2 more fits2 base2 e u 0 0 (q - (h.0 + j)) (q - h.0) (omega arith) (omega arith)
-            (then_goes left left2 more j fits fits2 base2 e u 0 (q - h.0) le k (h.7 base2 u like failing)),
-      )
-
   -- an alternative at hand
   pub one_goes : {A : Type 0} (left more : ℕ) (fits : Store → Flow A → State → Type 0) (base : List PlainEntry) (v : Store) (y : A)
       (s : State) (r q : ℕ) → left ≤ r + more → IsGoing base s → fits v (Go y) s → Goes left more fits base (one v y) s r q

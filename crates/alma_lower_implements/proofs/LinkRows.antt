@@ -1,10 +1,9 @@
 -- The link to a frame up the links, and places there: Own, then a Chain for each link, and then Outer or OuterSame.
-use Rattle.std.proofs.Common.{◌≡◌, ℕ, zero, suc, ◌+◌, ◌-◌, ◌<◌, ◌≤◌, inl, inr, List, length, get_or, Some, refl, sym, ap, ◌∙◌, subst, arith}
+use Rattle.std.proofs.Common.{◌≡◌, ℕ, zero, suc, ◌+◌, ◌-◌, ◌<◌, ◌≤◌, inl, inr, List, length, get_or, Some, refl, ap, ◌∙◌, subst, arith}
 use Rattle.std.specs.Prelude.{slice_get}
 use Rattle.std.proofs.lemmas.Bool.{cases_eq}
-use Rattle.std.proofs.lemmas.Option.{slice_get-get_or, get_or_from_slice_get}
+use Rattle.std.proofs.lemmas.Option.{slice_get-get_or}
 use Rattle.alma_code.specs.declared.cell.Cell.TheVariants as cell
-use Rattle.alma_code.specs.declared.cell.CellPlace.{CellPlace}
 use Rattle.alma_code.specs.declared.cell.SlotKind.TheVariants as slot
 use Rattle.alma_code.specs.declared.instr.Instr.TheVariants as I
 use Rattle.alma_code.specs.Picture.{PlainFrame, PlainEntry}
@@ -15,13 +14,12 @@ use Rattle.alma_ir.specs.Tree.{Program, routine_at}
 use Rattle.alma_ir.specs.Checked.{IsNested, link_slots, outer_at}
 use Rattle.alma_mean.specs.Store.{Store, top, top_frame, up, up_from, Place}
 use Rattle.alma_mean.specs.Store as store
-use Rattle.alma_mean.specs.Events.{one, node}
-use Rattle.alma_lower_implements.proofs.Goes.{Silently, and_then, before, one_goes}
-use Rattle.alma_lower_implements.proofs.Frames.{shift, shift_in, own_end, HasLink, SamePlace, AreNumbers, StandFor, Fits, IsAt}
-use Rattle.alma_lower_implements.proofs.FrameLemmas.{fits_on, fits_less, fits_temp, holds_written}
-use Rattle.alma_lower_implements.proofs.Steps.{top_written, Holds, InstrAt, own_step, chain_step, outer_step}
-use Rattle.alma_lower_implements.proofs.ExprRows.{kind_there, within_frame, slots_behind_routine, some_frames, LeavesPlace, begun}
-use Rattle.alma_lower_implements.proofs.ExprRows.{AreVariables, RunsPlace, InsideOf, as_node}
+use Rattle.alma_mean.specs.Events.{one}
+use Rattle.alma_lower_implements.proofs.Goes.{Silently, and_then, before}
+use Rattle.alma_lower_implements.proofs.Frames.{shift_in, own_end, HasLink, StandFor, Fits, IsAt}
+use Rattle.alma_lower_implements.proofs.FrameLemmas.{fits_on, fits_temp, holds_written}
+use Rattle.alma_lower_implements.proofs.Steps.{top_written, Holds, InstrAt, own_step, chain_step}
+use Rattle.alma_lower_implements.proofs.ExprRows.{kind_there, within_frame, slots_behind_routine, some_frames}
 
 module _ (p : Program) where
   -- so many links lead up from a frame, each held by the frame before it
@@ -185,74 +183,3 @@ module _ (p : Program) (code : PlainCode) (input : List ℕ) (line : ℕ) where
 
   abbrev pub outer_place : (links from cells : ℕ) → Store → Place
   outer_place links from cells v = record { frame = up v links; slot = from; size = cells }
-
-  outer_are_numbers : (links from cells r : ℕ) (v : Store) (now : List PlainFrame) → StandFor p code v now → (top_frame v).routine ≡ r
-      → LinkedUp p v (top v) links → AreVariables p code input (outer_at p r links) from cells
-      → AreNumbers p code v now (outer_place links from cells v)
-  outer_are_numbers links from cells r v now stand routine reached h =
-      let q = outer_at p r links in
-      let f = up v links in
-      let live = up_live p code v (top v) links reached in
-      let is : (get_or v f store.no_frame).routine ≡ q = up_routine p code v now (top v) links stand reached
-      ∙ ap (λ x. outer_at p x links) routine in
-      let same = stand.frames f live in
-      let slots : length (get_or v f store.no_frame).cells ≡ (routine_at p q).slots = same.slots ∙ ap (λ x. (routine_at p x).slots) is in
-      let kinds : (get_or now f picture.no_frame).kinds ≡ kinds_at code q = same.kinds ∙ ap (kinds_at code) (sym same.routine ∙ is) in
-      let shifts : shift p q ≡ shift_in p v f = ap (shift p) (sym is) in
-      record {
-        frame = live;
-        cells = λ k lt. omega (arith, lt, h.exist, slots);
-        kinds = λ k lt.
-            subst (λ m. get_or (get_or now f picture.no_frame).kinds (m + (from + k)) slot.Mark ≡ slot.Number) shifts
-            (get_or_from_slice_get (get_or now f picture.no_frame).kinds (shift p q + (from + k)) slot.Number slot.Mark
-            (ap (λ ks. slice_get ks (shift p q + (from + k))) kinds ∙ h.numbers k lt));
-        free = λ e. h.free (sym is ∙ ap (λ n. (get_or v n store.no_frame).routine) e ∙ stand.main);
-      }
-
-  -- a variable of a routine round this one: its place goes into the slot lo, the links into the slots behind it
-  pub outer_row : (at lo r links from cells : ℕ) (q : ℕ) → 0 < cells → links ≤ 8
-      → ((v : Store) (now : List PlainFrame) → StandFor p code v now → (top_frame v).routine ≡ r → LinkedUp p v (top v) links)
-      → own_end p r ≤ lo → slice_get (kinds_at code r) lo ≡ Some (slot.Place cells) → (own : ℕ)
-      → slice_get (kinds_at code r) (lo + 1) ≡ Some (slot.Link own) → AreLinks r (lo + 1) links
-      → InstrAt code input line at (I.Own (lo + 1)) → ChainsAt (at + 1) (lo + 1) links
-      → InstrAt code input line (at + 1 + links) (I.Outer lo (lo + 1 + links) (shift p (outer_at p r links) + from))
-      → AreVariables p code input (outer_at p r links) from cells
-      → RunsPlace p code input line at (at + 1 + links + 1) lo r (λ v. node (one v (outer_place links from cells v))) q
-  outer_row at lo r links from cells q some few reaches behind kind own own_kind kinds own_at chains_at outer_at_ variables =
-      as_node p code input line at r (LeavesPlace p code input (at + 1 + links + 1) lo r) (λ v. one v (outer_place links from cells v)) q
-      inside
-    where
-      inside : InsideOf p code input line at r (LeavesPlace p code input (at + 1 + links + 1) lo r)
-          (λ v. one v (outer_place links from cells v)) q
-      inside v now held s is stand routine =
-          let reached = reaches v now stand routine in
-          let c : CellPlace = record { frame = up v links; slot = shift p (outer_at p r links) + from; len = cells } in
-          let l = link_goes links at (lo + 1) r v now held s (omega (arith, behind)) is stand routine reached own_at own own_kind chains_at
-          kinds in
-          let place_kind = kind_there p code input v l.frames r l.fits.stand routine lo (slot.Place cells) kind in
-          let w = outer_step code input line (at + 1 + links) l.frames held l.to l.is lo (lo + 1 + links)
-          (shift p (outer_at p r links) + from) (up v links) cells outer_at_ place_kind l.holds in
-          let later = top_written l.frames lo (cell.Place c) in
-          let one_more_write : Fits p code lo l.frames v later =
-          fits_temp p code lo v l.frames lo (cell.Place c) (omega arith)
-          (slots_behind_routine p code input v l.frames r l.fits.stand routine lo behind) l.fits.stand in
-          let fit : Fits p code lo now v later = fits_on p code lo lo v v now l.frames later (omega arith)
-          (fits_less p code lo (lo + 1) v now l.frames (omega arith) l.fits) one_more_write in
-          let there = holds_written l.frames lo (cell.Place c) (some_frames p code input v l.frames r l.fits.stand routine)
-          (within_frame p code input v l.frames r l.fits.stand routine lo (slot.Place cells) kind) in
-          let numbers = outer_are_numbers links from cells r v later fit.stand routine reached variables in
-          let is_routine : (get_or v (up v links) store.no_frame).routine ≡ outer_at p r links =
-          up_routine p code v now (top v) links stand reached ∙ ap (λ x. outer_at p x links) routine in
-          let same : SamePlace p v (outer_place links from cells v) c =
-          record { frame = refl; slot = ap (λ x. shift p x + from) is_routine; size = refl } in
-          before code input line 0 24 (LeavesPlace p code input (at + 1 + links + 1) lo r (begun p code input v now held)) held
-          (one v (outer_place links from cells v)) s w.to (1 + links + 1) 32 0 q q (and_then code input l.silently w.silently)
-          (omega (arith, few)) (omega arith)
-          (one_goes code input line 0 24 (LeavesPlace p code input (at + 1 + links + 1) lo r (begun p code input v now held)) held v
-          (outer_place links from cells v) w.to 0 q (omega arith) (record { mode = w.is.mode; entries = w.is.entries }) (
-            record { here = w.is.here; fits = subst (Fits p code lo now v) (sym w.is.frames) fit; routine = routine },
-            subst (λ z. AreNumbers p code v z (outer_place links from cells v)) (sym w.is.frames) numbers,
-            some,
-            (c, same, subst (λ z. Holds z lo (cell.Place c)) (sym w.is.frames) there),
-            record { same = refl; none = w.is.entries },
-          ))

@@ -1,5 +1,5 @@
 -- Lists of statements, NOT and OR; and parts whose way out is said in another word.
-use Rattle.std.proofs.Common.{ℕ, ◌+◌, ◌≤◌, List, length, refl, sym, subst, arith, ℤ, Option, ◌-◌}
+use Rattle.std.proofs.Common.{ℕ, ◌+◌, ◌≤◌, List, refl, sym, subst, arith, ℤ, Option, ◌-◌}
 use Rattle.alma_code.specs.declared.cell.Cell.TheVariants as cell
 use Rattle.alma_code.specs.declared.cell.SlotKind.TheVariants as slot
 use Rattle.alma_code.specs.declared.instr.Instr.TheVariants as I
@@ -7,11 +7,9 @@ use Rattle.alma_code.specs.Picture.{PlainFrame, PlainEntry}
 use Rattle.alma_code.specs.Plain.{PlainCode}
 use Rattle.alma_code.specs.Machine.{State}
 use Rattle.alma_mean.specs.Store.{Store}
-use Rattle.alma_mean.specs.Events.{Events, NoYield, Flow, Go, Return, Fail, one, bind, at_line, on_first}
-use Rattle.alma_lower_implements.proofs.Goes.{Silently, IsGoing, no_step, before, weaker, bind_goes, one_goes, lined_goes}
-use Rattle.alma_lower_implements.proofs.Steps.{InstrAt, top_written, HasKind, fail_step}
-use Rattle.alma_lower_implements.proofs.Ways.{Ways, Leaves, Runs, Inside, LeadsTo, then_up_to, Behind}
-use Rattle.alma_lower_implements.proofs.FirstRow.{KeepsMark, first_row}
+use Rattle.alma_mean.specs.Events.{Events, NoYield, Flow, Go, Return, one, bind, at_line}
+use Rattle.alma_lower_implements.proofs.Goes.{Silently, IsGoing, no_step, bind_goes, one_goes, lined_goes}
+use Rattle.alma_lower_implements.proofs.Ways.{Ways, Leaves, Runs, then_up_to}
 
 module _ (code : PlainCode) (input : List ℕ) where
   -- a weaker way out
@@ -46,43 +44,3 @@ module _ (code : PlainCode) (input : List ℕ) where
       (λ v y t base going left. rest v t.now left.1 c le base t
       (record { mode = going.mode; here = left.0; frames = refl; entries = going.entries }))
       (λ v n t left. returns v n t.at t.now left)
-
-  -- NOT: Mark, Choose, the test, Cut, Fail
-  pub not_row : (line at n m : ℕ) (now : List PlainFrame) (w : ℕ → Ways NoYield) (w2 : Ways NoYield) (e : Events NoYield) (v : Store)
-      (q : ℕ)
-      → InstrAt code input line at (I.Mark m) → InstrAt code input line (at + 1) (I.Choose (n + 2)) → InstrAt code input line n (I.Cut m)
-      → InstrAt code input line (n + 1) I.Fail → HasKind now m slot.Mark
-      → ((h : ℕ) → Runs code input line (at + 2) n (top_written now m (cell.Mark h)) (w h) e q) → ((h : ℕ) → KeepsMark code input m h (w h))
-      → ((h : ℕ) → w2.goes v tt (top_written now m (cell.Mark h)))
-      → Inside code input line at (n + 2) now w2 (on_first e (λ u _. Fail) (λ _. one v tt)) q
-  not_row line at n m now w w2 e v q mark choose cut fail kind runs keeps none held s is =
-      weaker code input line 0 24 (Leaves (n + 2) w2) held (on_first e (λ u _. Fail) (λ _. one v tt)) s 32 11 q q (omega arith)
-      (omega arith)
-      (first_row code input line at n (n + 2) m now w e 0 24 (Leaves (n + 2) w2) (λ u _. Fail) (λ _. one v tt) q mark choose cut kind runs
-      keeps 8 0 (omega arith) held s is
-      (λ u y t there fit. let f = fail_step code input line (n + 1) t.now held t there fail in (1, f.to, omega arith, f.silently, f.is))
-      (λ t there. one_goes code input line 0 24 (Leaves (n + 2) w2) held v tt t 0 (q - 1) (omega arith)
-      (record { mode = there.mode; entries = there.entries })
-      (there.here, subst (w2.goes v tt) (sym there.frames) (none (length held)))))
-
-  -- an operand of OR that is not the last: where it has an alternative the way out leads from behind its Cut
-  pub operand_row : (line at n next exit m : ℕ) (now : List PlainFrame) (w : ℕ → Ways NoYield) (w2 : Ways NoYield) (e : Events NoYield)
-      (rest : Unit {0} → Events NoYield) (q : ℕ)
-      → InstrAt code input line at (I.Mark m) → InstrAt code input line (at + 1) (I.Choose next) → InstrAt code input line n (I.Cut m)
-      → LeadsTo code input 8 (n + 1) exit → HasKind now m slot.Mark
-      → ((h : ℕ) → Runs code input line (at + 2) n (top_written now m (cell.Mark h)) (w h) e q) → ((h : ℕ) → KeepsMark code input m h (w h))
-      → ((h : ℕ) (v : Store) (y : NoYield) (t : List PlainFrame) → (w h).goes v y t → w2.goes v tt t)
-      -- the operands behind it, in the store on entry and with the mark slot written
-      → ((h : ℕ) → Behind code input line next exit (top_written now m (cell.Mark h)) w2 (rest tt) q)
-      → Inside code input line at exit now w2 (on_first e (λ u _. one u tt) rest) q
-  operand_row line at n next exit m now w w2 e rest q mark choose cut leads kind runs keeps less later held s is =
-      weaker code input line 0 24 (Leaves exit w2) held (on_first e (λ u _. one u tt) rest) s 32 19 q q (omega arith) (omega arith)
-      (first_row code input line at n next m now w e 0 24 (Leaves exit w2) (λ u _. one u tt) rest q mark choose cut kind runs keeps 8 8
-      (omega arith) held s is
-      (λ u y t there fit.
-      let z = leads t.now held t there in
-      before code input line 0 24 (Leaves exit w2) held (one u tt) t z.1 z.0 16 8 (q - 1) q z.3 (omega (arith, z.2)) (omega arith)
-      (one_goes code input line 0 24 (Leaves exit w2) held u tt z.1 8 q (omega arith) (record { mode = z.4.mode; entries = z.4.entries })
-      (z.4.here, subst (w2.goes u tt) (sym z.4.frames) (less (length held) u y t.now fit))))
-      (λ t there. weaker code input line 0 24 (Leaves exit w2) held (rest tt) t 8 8 (q - 1) q (omega arith) (omega arith)
-      (later (length held) held t there)))

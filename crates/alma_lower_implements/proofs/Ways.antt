@@ -6,7 +6,7 @@ use Rattle.alma_code.specs.Plain.{PlainCode}
 use Rattle.alma_code.specs.Machine.{State}
 use Rattle.alma_mean.specs.Store.{Store}
 use Rattle.alma_mean.specs.Events.{Events, Flow, Go, Return, Visit, Print, Alt, Fail, Fault, Cut}
-use Rattle.alma_lower_implements.proofs.Goes.{Silently, IsGoing, Goes, no_step, and_then, before, weaker, credited}
+use Rattle.alma_lower_implements.proofs.Goes.{Silently, IsGoing, Goes, no_step, and_then, before, weaker}
 use Rattle.alma_lower_implements.proofs.Frames.{IsAt}
 use Rattle.alma_lower_implements.proofs.Steps.{InstrAt}
 use Rattle.alma_lower_implements.proofs.ChoiceSteps.{jumps}
@@ -58,11 +58,6 @@ module _ (code : PlainCode) (input : List ℕ) where
   visited_behind line at exit now w e q runs held s is =
       weaker code input line 0 24 (Leaves exit w) held e s 40 24 q q (omega arith) (omega arith) (runs held s is)
 
-  pub runs_behind : {A : Type 0} (line at exit : ℕ) (now : List PlainFrame) (w : Ways A) (e : Events A) (q : ℕ)
-      → Runs line at exit now w e q → Behind line at exit now w e q
-  runs_behind line at exit now w e q runs held s is =
-      credited code input line 8 0 0 24 (Leaves exit w) held e s 8 q (omega arith) (runs 8 (omega arith) held s is)
-
   -- so many steps at most, silently, to a state that goes on with the same frames and entries
   abbrev pub LeadsTo : (most at to_at : ℕ) → Type 0
   LeadsTo most at to_at = (now : List PlainFrame) (held : List PlainEntry) (s : State) → IsAt at now held s → (k : ℕ) × (t : State)
@@ -74,13 +69,6 @@ module _ (code : PlainCode) (input : List ℕ) where
   pub leads_by_jump : (line most at to_at : ℕ) → 1 ≤ most → InstrAt code input line at (I.Jump to_at) → LeadsTo most at to_at
   leads_by_jump line most at to_at le i now held s is = let w = jumps code input line at to_at now held s is i in
       (1, w.to, le, w.silently, w.is)
-
-  pub leads_by_two : (line most at jump to_at : ℕ) → 2 ≤ most → InstrAt code input line at (I.Jump jump)
-      → InstrAt code input line jump (I.Jump to_at) → LeadsTo most at to_at
-  leads_by_two line most at jump to_at le i j now held s is =
-      let a = jumps code input line at jump now held s is i in
-      let b = jumps code input line jump to_at now held a.to a.is j in
-      (2, b.to, le, and_then code input a.silently b.silently, b.is)
 
   pub leads_then : (line most at jump to_at : ℕ) → InstrAt code input line at (I.Jump jump) → LeadsTo most jump to_at
       → LeadsTo (most + 1) at to_at

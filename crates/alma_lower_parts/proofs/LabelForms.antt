@@ -111,23 +111,6 @@ between_holes a b c d e f g line value bound test low high label least most t is
           ∙ ap (λ l. (xs ++ l) ++ ys) (said to);
     }
 
--- the test of a label is the one or the other
-pub single_label : (a b : Front) (aim : ℕ → List LineInstr → List LineInstr) (line value bound : ℕ) (label : Range)
-    → int_eq label.low label.high ≡ true
-    → Holes a b aim (λ none at lo ls. own line (single_test value bound none label.low)) (λ ls. []) (λ ls. ls)
-    → Holes a b aim (λ none at lo ls. own line (label_test value bound none label)) (λ ls. []) (λ ls. ls)
-single_label a b aim line value bound label is h =
-    holes_as a b _ _ _ _ aim _ _ h
-    (λ to. ap (λ z. own line (if z then single_test value bound to label.low else between_test value bound to label)) (sym is)) refl refl
-
-pub between_label : (a b : Front) (aim : ℕ → List LineInstr → List LineInstr) (line value bound : ℕ) (label : Range)
-    → int_eq label.low label.high ≡ false
-    → Holes a b aim (λ none at lo ls. own line (between_test value bound none label)) (λ ls. []) (λ ls. ls)
-    → Holes a b aim (λ none at lo ls. own line (label_test value bound none label)) (λ ls. []) (λ ls. ls)
-between_label a b aim line value bound label is h =
-    holes_as a b _ _ _ _ aim _ _ h
-    (λ to. ap (λ z. own line (if z then single_test value bound to label.low else between_test value bound to label)) (sym is)) refl refl
-
 -- how long the test of a label is
 pub test_long : (line value bound miss : ℕ) (label : Range) → length (own line (label_test value bound miss label)) ≡ test_size label
 test_long line value bound miss label = by (int_eq label.low label.high)

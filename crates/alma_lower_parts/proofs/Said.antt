@@ -22,7 +22,7 @@ use Rattle.alma_lower_work.specs.declared.stand.Stand.TheVariants as stands
 use Rattle.alma_lower_work.specs.Front.{Around, Front, Codes, Takes}
 use Rattle.alma_lower_work.specs.Puts.{stays_until, PutsFirstOperand, PutsStmts, PutsStmt, PutsArms, PutsCases, PutsDeadBodies, PutsElse}
 use Rattle.alma_lower_work.specs.Puts.{PutsBranches, PutsTest, PutsGuard, PutsAnd, PutsOperands, PutsExpr, PutsValue, PutsLinks, PutsArgs}
-use Rattle.alma_lower_work.specs.Puts.{PutsArg, PutsDesig, PutsHeld, PutsTarget, PutsSels, PutsSel, value_slot, stand_of}
+use Rattle.alma_lower_work.specs.Puts.{PutsArg, PutsHeld, PutsTarget, PutsSels, PutsSel, value_slot, stand_of}
 use Rattle.alma_lower_parts.proofs.ExprForms.{stay_put, made_first_put, own_value_put, own_value_slot, made_value_put, made_value_slot}
 use Rattle.alma_lower_parts.proofs.ExprForms.{own_target_put, made_target_put, own_stand_of, made_stand_of}
 use Rattle.alma_lower_work.proofs.DesigForms.{parts_on}
@@ -54,11 +54,6 @@ then_ok (Err e) h f = h
 pub from_both : {A E : Type 0} (r : Result A E) {P Q R : Type 0} → OnOk r P → OnOk r Q → (P → Q → R) → OnOk r R
 from_both (Ok x) h j f = f h j
 from_both (Err e) h j f = h
-
--- two facts of the value, if there is one
-pub ok_from : {A E : Type 0} (r : Result A E) {P Q : A → Type 0} {R : Type 0} → IfOk r P → IfOk r Q → ((x : A) → P x → Q x → R) → OnOk r R
-ok_from (Ok x) h j f = f x h j
-ok_from (Err e) h j f = h
 
 abbrev where_true : Type 0 → Bool → Type 0
 where_true P true = P
@@ -115,9 +110,6 @@ module _ (s : Around) (line : ℕ) where
   pub stmt_is : (a b : Front) (x y : Stmt) → x ≡ y → PutsStmt s line a b x → PutsStmt s line a b y
   stmt_is a b x y e h = subst (λ z. PutsStmt s line a b z) e h
 
-  pub test_is : (a b : Front) (x y : Test) → x ≡ y → PutsTest s line a b x → PutsTest s line a b y
-  test_is a b x y e h = subst (λ z. PutsTest s line a b z) e h
-
   pub expr_is : (a b : Front) (x y : Expr) → x ≡ y → PutsExpr s line a b x → PutsExpr s line a b y
   expr_is a b x y e h = subst (λ z. PutsExpr s line a b z) e h
 
@@ -133,9 +125,6 @@ module _ (s : Around) (line : ℕ) where
 
   pub sels_is : (from : ℕ) (a b : Front) (x y : Sels) → x ≡ y → PutsSels s line from a b x → PutsSels s line from a b y
   sels_is from a b x y e h = subst (λ z. PutsSels s line from a b z) e h
-
-  pub desig_is : (a b : Front) (x y : Desig) → x ≡ y → PutsDesig s line a b x → PutsDesig s line a b y
-  desig_is a b x y e h = subst (λ z. PutsDesig s line a b z) e h
 
   pub stmts_is : (a b : Front) (x y : Stmts) → x ≡ y → PutsStmts s a b x → PutsStmts s a b y
   stmts_is a b x y e h = subst (λ z. PutsStmts s a b z) e h

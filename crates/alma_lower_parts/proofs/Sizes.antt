@@ -1,20 +1,19 @@
 -- The nodes of an element of a list are some of those of the list.
-use Rattle.std.proofs.Common.{◌≡◌, ℕ, ◌+◌, ◌<◌, ◌≤◌, List, length, get_or, drop, ap, arith}
-use Rattle.std.proofs.lemmas.List.Sums.{get_or-le-sum_by, sum_by-take-drop}
+use Rattle.std.proofs.Common.{◌≡◌, ℕ, ◌+◌, ◌<◌, ◌≤◌, List, length, get_or, ap, arith}
+use Rattle.std.proofs.lemmas.List.Sums.{get_or-le-sum_by}
 use Rattle.alma_ir.specs.declared.phrase.Stmt as S
 use Rattle.alma_ir.specs.declared.phrase.Test as T
 use Rattle.alma_ir.specs.declared.phrase.Arg as A
 use Rattle.alma_ir.specs.declared.phrase.Sel as L
 use Rattle.alma_ir.specs.declared.phrase.Arm.{Arm}
 use Rattle.alma_ir.specs.declared.phrase.CaseArm.{CaseArm}
-use Rattle.alma_ir.specs.declared.phrase.Branch.{Branch}
 use Rattle.alma_ir.specs.declared.phrase.Link.{Link}
 use Rattle.alma_ir.specs.View.{stmt_of, test_of, expr_of, arg_of, sel_of, stmts_list, tests_list, args_list, sels_list, arms_list}
-use Rattle.alma_ir.specs.View.{cases_list, branches_list, links_list}
-use Rattle.alma_ir.specs.Count.{stmts_nodes, stmt_nodes, arms_nodes, cases_nodes, branches_nodes, test_nodes, tests_nodes, expr_nodes}
+use Rattle.alma_ir.specs.View.{cases_list, links_list}
+use Rattle.alma_ir.specs.Count.{stmts_nodes, stmt_nodes, arms_nodes, cases_nodes, test_nodes, tests_nodes, expr_nodes}
 use Rattle.alma_ir.specs.Count.{links_nodes, args_nodes, arg_nodes, sels_nodes, sel_nodes}
-use Rattle.alma_ir.proofs.Counts.{of_stmt, of_test, of_arg, of_sel, of_link, of_arm, of_case, of_branch, stmts_sum, tests_sum, args_sum}
-use Rattle.alma_ir.proofs.Counts.{sels_sum, links_sum, arms_sum, cases_sum, branches_sum}
+use Rattle.alma_ir.proofs.Counts.{of_stmt, of_test, of_arg, of_sel, of_link, of_arm, of_case, stmts_sum, tests_sum, args_sum}
+use Rattle.alma_ir.proofs.Counts.{sels_sum, links_sum, arms_sum, cases_sum}
 
 pub stmt_at : (xs : List S.Stmt) (i : ℕ) (x : S.Stmt) → i < length xs → x ≡ get_or xs i x
     → stmt_nodes (stmt_of x) ≤ stmts_nodes (stmts_list xs)
@@ -41,10 +40,3 @@ arm_at xs i x lt is = omega (arith, get_or-le-sum_by of_arm xs i x lt, arms_sum 
 pub case_at : (xs : List CaseArm) (i : ℕ) (x : CaseArm) → i < length xs → x ≡ get_or xs i x
     → stmts_nodes (stmts_list x.body.items) ≤ cases_nodes (cases_list xs)
 case_at xs i x lt is = omega (arith, get_or-le-sum_by of_case xs i x lt, cases_sum xs, ap of_case is)
-
-pub branch_at : (xs : List Branch) (i : ℕ) (x : Branch) → i < length xs → x ≡ get_or xs i x
-    → stmts_nodes (stmts_list x.body.items) ≤ branches_nodes (branches_list xs)
-branch_at xs i x lt is = omega (arith, get_or-le-sum_by of_branch xs i x lt, branches_sum xs, ap of_branch is)
-
-pub cases_behind : (xs : List CaseArm) (i : ℕ) → cases_nodes (cases_list (drop i xs)) ≤ cases_nodes (cases_list xs)
-cases_behind xs i = omega (arith, sum_by-take-drop of_case xs i, cases_sum xs, cases_sum (drop i xs))

@@ -15,13 +15,13 @@ use Rattle.alma_code.specs.declared.cell.SlotKind.{SlotKind}
 use Rattle.alma_code.specs.declared.cell.SlotKind.TheVariants as slot
 use Rattle.alma_code.specs.declared.instr.Instr.{Instr}
 use Rattle.alma_code.specs.declared.instr.Instr.TheVariants as I
-use Rattle.alma_code.specs.Machine.{State, StepResult, quiet_step, slot_of, kind_of, as_number, as_place, as_mark}
+use Rattle.alma_code.specs.Machine.{State, StepResult, quiet_step, slot_of, kind_of, as_number, as_place}
 use Rattle.alma_code.specs.Machine.{number, place, link, with_cell, with_slot, to_number, to_place, to_mark, to_link, put_number}
 use Rattle.alma_code.specs.Machine.{put_place, put_link, link_to, integer_result, as_content}
 use Rattle.alma_code.specs.Machine.{content, store, with_known_content, as_range, range_check, optional_range_check}
 use Rattle.alma_code.specs.Machine.{binds_content, equations}
 use Rattle.alma_code.specs.Machine.{equation_of_contents, equation, copies_cells, result_to, answers_return}
-use Rattle.alma_code.specs.Machine.{as_position, position, take_input, takes_read, byte_or_failure, as_text, as_fault}
+use Rattle.alma_code.specs.Machine.{as_position, position, take_input, takes_read, byte_or_failure, as_text}
 use Rattle.alma_code.specs.Picture.{PlainEntry, no_frame, cell_at}
 use Rattle.alma_code.specs.Plain.{PlainCode}
 use Rattle.alma_code_laws.proofs.Acts.{live_content}
@@ -59,15 +59,6 @@ module _ (code : PlainCode) (base : ℕ → ℕ) (old : List PlainEntry) where
   pub two_calm : (t : State) (b c : ℕ) (k : ℤ → ℤ → StepResult) → Calm t → ((x y : ℤ) → Quiet (k x y))
       → Quiet (number t b (λ x. number t c (λ y. k x y)))
   two_calm t b c k h g = number_calm t b (λ x. number t c (λ y. k x y)) h (λ x. number_calm t c (λ y. k x y) h (λ y. g x y))
-
-  -- a cell is read as a mark
-  as_mark_calm : (o : Option Cell) (t : State) (k : ℕ → StepResult) → Calm t → ((v : ℕ) → Quiet (k v)) → Quiet (as_mark o t k)
-  as_mark_calm (Some (cell.Mark m)) t k h g = g m
-  as_mark_calm (Some cell.Unset) t k h g = record { by = h.by; held = h.held; at = h.at }
-  as_mark_calm (Some cell.Unknown) t k h g = record { by = h.by; held = h.held; at = h.at }
-  as_mark_calm (Some (cell.Int v)) t k h g = record { by = h.by; held = h.held; at = h.at }
-  as_mark_calm (Some (cell.Place p)) t k h g = record { by = h.by; held = h.held; at = h.at }
-  as_mark_calm None t k h g = record { by = h.by; held = h.held; at = h.at }
 
   -- a cell is written that is no mark
   pub with_cell_calm : (t : State) (f i : ℕ) (c : Cell) → Calm t → NoMark c → Calm (with_cell t f i c)
@@ -285,8 +276,3 @@ module _ (code : PlainCode) (base : ℕ → ℕ) (old : List PlainEntry) where
   pub text_calm : (o : Option (List ℕ)) (t : State) → Calm t → Quiet (as_text o t)
   text_calm (Some x) t h = record { by = h.by; held = h.held; at = h.at }
   text_calm None t h = record { by = h.by; held = h.held; at = h.at }
-
-  -- a fault that may not be there
-  pub fault_calm : (o : Option RunFault) (t : State) → Calm t → Quiet (as_fault o t)
-  fault_calm (Some f) t h = record { by = h.by; held = h.held; at = h.at }
-  fault_calm None t h = record { by = h.by; held = h.held; at = h.at }

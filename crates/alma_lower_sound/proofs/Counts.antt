@@ -159,12 +159,6 @@ module _ (p : Program) (code : PlainCode) (checked : IsChecked p) (is_code : IsC
     lines = omega (arith, few_lines, few);
   }
 
--- where the tables are known to be small
-pub keeps_counts_by :
-    (p : Program) (code : PlainCode) → IsChecked p → IsCodeOf p code → HasLongRuns p code → length code.ranges ≤ record_limit
-    → length code.texts ≤ record_limit → text_count code ≤ pool_limit → 16 * nodes p ≤ size_limit → KeepsCounts code
-keeps_counts_by p code checked is_code runs ranges texts bytes few = counts p code checked is_code few runs ranges texts bytes
-
 pub code_keeps_counts : (p : Program) (code : PlainCode) → IsChecked p → IsCodeOf p code → HasLongRuns p code → HoldsEachOnce p code
     → 16 * nodes p ≤ size_limit → KeepsCounts code
 code_keeps_counts p code checked is_code runs held few =

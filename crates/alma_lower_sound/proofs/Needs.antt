@@ -251,10 +251,6 @@ module _ (code : PlainCode) (r : ℕ) where
         ∙ (passed 7 at _ h7 ∙ (passed 8 at _ h8
         ∙ (passed 9 at _ h9 ∙ (passed 10 at _ h10 ∙ (passed 11 at _ h11 ∙ passed 12 at _ h12)))))))
 
-    -- rule 11 where an instruction stands behind
-    behind_true : (b : Bool) → (true || b) ≡ true
-    behind_true b = refl
-
     not_last : (at : ℕ) (i : Instr) → suc at < end_at code r → rule_11 code r at i ≡ true
     unfolding rule_11
     not_last at i h = ap (λ b. b || ends_routine i) (lt-ltb (suc at) (end_at code r) h)

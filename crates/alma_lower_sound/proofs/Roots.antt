@@ -34,9 +34,6 @@ use Rattle.alma_lower_templates.specs.Compiled.{link_params, param_named, is_fun
 use Rattle.alma_lower_templates.proofs.RootForms.{IsParam}
 use Rattle.alma_lower_sound.proofs.Needs.{HasKind, Needs, Number, Link, Place}
 
-abbrev no_input : List ℕ
-no_input = []
-
 -- what is known of the code of a program
 pub record Compiled (p : Program) (tables : Tables) (code : PlainCode) : Type 0 where
   pub count : length code.routines ≡ length p.routines

@@ -538,12 +538,6 @@ tests_more a b c xs i x lt is h j =
     ∙ ap (λ y. take i xs ++ y ∷ []) (sym is) in
     as_phrases a c _ _ (ap (λ l. P.tests_phrases (view.tests_list l)) front ∙ tests_last (take i xs) x) (then_walked a b c _ _ h j)
 
-pub tests_whole : (a b : Tables) (xs : List T.Test) (i : ℕ) → i ≡ length xs
-    → AddsPhrases a b (P.tests_phrases (view.tests_list (take i xs)))
-    → AddsPhrases a b (P.tests_phrases (view.tests_list xs))
-tests_whole a b xs i is h = as_phrases a b _ _
-    (ap (λ l. P.tests_phrases (view.tests_list l)) (sym (take-length xs) ∙ ap (λ n. take n xs) (sym is))) h
-
 args_last : (xs : List A.Arg) (x : A.Arg)
     → P.args_phrases (view.args_list (xs ++ x ∷ [])) ≡ P.args_phrases (view.args_list xs) ++ (P.arg_phrases (view.arg_of x))
 unfolding P.stmts_phrases
@@ -563,11 +557,6 @@ args_more a b c xs i x lt is h j =
     ∙ ap (λ y. take i xs ++ y ∷ []) (sym is) in
     as_phrases a c _ _ (ap (λ l. P.args_phrases (view.args_list l)) front ∙ args_last (take i xs) x) (then_walked a b c _ _ h j)
 
-pub args_whole : (a b : Tables) (xs : List A.Arg) (i : ℕ) → i ≡ length xs → AddsPhrases a b (P.args_phrases (view.args_list (take i xs)))
-    → AddsPhrases a b (P.args_phrases (view.args_list xs))
-args_whole a b xs i is h = as_phrases a b _ _
-    (ap (λ l. P.args_phrases (view.args_list l)) (sym (take-length xs) ∙ ap (λ n. take n xs) (sym is))) h
-
 sels_last : (xs : List L.Sel) (x : L.Sel)
     → P.sels_phrases (view.sels_list (xs ++ x ∷ [])) ≡ P.sels_phrases (view.sels_list xs) ++ (P.sel_phrases (view.sel_of x))
 unfolding P.stmts_phrases
@@ -586,11 +575,6 @@ sels_more a b c xs i x lt is h j =
     let front : take (i + 1) xs ≡ take i xs ++ x ∷ [] = ap (λ k. take k xs) (add-one i) ∙ take-suc xs i x lt
     ∙ ap (λ y. take i xs ++ y ∷ []) (sym is) in
     as_phrases a c _ _ (ap (λ l. P.sels_phrases (view.sels_list l)) front ∙ sels_last (take i xs) x) (then_walked a b c _ _ h j)
-
-pub sels_whole : (a b : Tables) (xs : List L.Sel) (i : ℕ) → i ≡ length xs → AddsPhrases a b (P.sels_phrases (view.sels_list (take i xs)))
-    → AddsPhrases a b (P.sels_phrases (view.sels_list xs))
-sels_whole a b xs i is h = as_phrases a b _ _
-    (ap (λ l. P.sels_phrases (view.sels_list l)) (sym (take-length xs) ∙ ap (λ n. take n xs) (sym is))) h
 
 links_last : (xs : List Link) (x : Link)
     → P.links_phrases (view.links_list (xs ++ x ∷ [])) ≡ P.links_phrases (view.links_list xs) ++ (P.expr_phrases (view.expr_of x.operand))
@@ -612,11 +596,6 @@ links_more a b c xs i x lt is h j =
     ∙ ap (λ y. take i xs ++ y ∷ []) (sym is) in
     as_phrases a c _ _ (ap (λ l. P.links_phrases (view.links_list l)) front ∙ links_last (take i xs) x) (then_walked a b c _ _ h j)
 
-pub links_whole : (a b : Tables) (xs : List Link) (i : ℕ) → i ≡ length xs → AddsPhrases a b (P.links_phrases (view.links_list (take i xs)))
-    → AddsPhrases a b (P.links_phrases (view.links_list xs))
-links_whole a b xs i is h = as_phrases a b _ _
-    (ap (λ l. P.links_phrases (view.links_list l)) (sym (take-length xs) ∙ ap (λ n. take n xs) (sym is))) h
-
 cases_last : (xs : List CaseArm) (x : CaseArm)
     → P.cases_phrases (view.cases_list (xs ++ x ∷ [])) ≡ P.cases_phrases (view.cases_list xs)
     ++ (P.stmts_phrases (view.stmts_list x.body.items))
@@ -637,12 +616,6 @@ cases_more a b c xs i x lt is h j =
     let front : take (i + 1) xs ≡ take i xs ++ x ∷ [] = ap (λ k. take k xs) (add-one i) ∙ take-suc xs i x lt
     ∙ ap (λ y. take i xs ++ y ∷ []) (sym is) in
     as_phrases a c _ _ (ap (λ l. P.cases_phrases (view.cases_list l)) front ∙ cases_last (take i xs) x) (then_walked a b c _ _ h j)
-
-pub cases_whole : (a b : Tables) (xs : List CaseArm) (i : ℕ) → i ≡ length xs
-    → AddsPhrases a b (P.cases_phrases (view.cases_list (take i xs)))
-    → AddsPhrases a b (P.cases_phrases (view.cases_list xs))
-cases_whole a b xs i is h = as_phrases a b _ _
-    (ap (λ l. P.cases_phrases (view.cases_list l)) (sym (take-length xs) ∙ ap (λ n. take n xs) (sym is))) h
 
 branches_last : (xs : List Branch) (x : Branch)
     → P.branches_phrases (view.branches_list (xs ++ x ∷ [])) ≡ P.branches_phrases (view.branches_list xs)
@@ -666,11 +639,6 @@ branches_more a b c xs i x lt is h j =
     ∙ ap (λ y. take i xs ++ y ∷ []) (sym is) in
     as_phrases a c _ _ (ap (λ l. P.branches_phrases (view.branches_list l)) front ∙ branches_last (take i xs) x) (then_walked a b c _ _ h j)
 
-pub branches_whole : (a b : Tables) (xs : List Branch) (i : ℕ) → i ≡ length xs
-    → AddsPhrases a b (P.branches_phrases (view.branches_list (take i xs))) → AddsPhrases a b (P.branches_phrases (view.branches_list xs))
-branches_whole a b xs i is h = as_phrases a b _ _
-    (ap (λ l. P.branches_phrases (view.branches_list l)) (sym (take-length xs) ∙ ap (λ n. take n xs) (sym is))) h
-
 arms_last : (xs : List Arm) (x : Arm) → P.arms_phrases (view.arms_list (xs ++ x ∷ [])) ≡ P.arms_phrases (view.arms_list xs)
     ++ (P.test_phrases (view.test_of x.cond) ++ P.stmts_phrases (view.stmts_list x.body.items))
 unfolding P.stmts_phrases
@@ -691,11 +659,6 @@ arms_more a b c xs i x lt is h j =
     let front : take (i + 1) xs ≡ take i xs ++ x ∷ [] = ap (λ k. take k xs) (add-one i) ∙ take-suc xs i x lt
     ∙ ap (λ y. take i xs ++ y ∷ []) (sym is) in
     as_phrases a c _ _ (ap (λ l. P.arms_phrases (view.arms_list l)) front ∙ arms_last (take i xs) x) (then_walked a b c _ _ h j)
-
-pub arms_whole : (a b : Tables) (xs : List Arm) (i : ℕ) → i ≡ length xs → AddsPhrases a b (P.arms_phrases (view.arms_list (take i xs)))
-    → AddsPhrases a b (P.arms_phrases (view.arms_list xs))
-arms_whole a b xs i is h = as_phrases a b _ _
-    (ap (λ l. P.arms_phrases (view.arms_list l)) (sym (take-length xs) ∙ ap (λ n. take n xs) (sym is))) h
 
 -- ---- vectors and boxes, which a call reads through
 

@@ -527,13 +527,6 @@ module _ (p : Program) (code : PlainCode) (input : List ℕ) where
         holds = holds_temp r n v now (cell.Place m) (slot.Place size) kind b;
       }))
 
-  -- with fewer slots of the phrase
-  pub from_lower : {A : Type 0} (line c at exit lo la r : ℕ) (v : Store) (now : List PlainFrame)
-      (yields : Store → A → List PlainFrame → Type 0) (e : Events A) (q : ℕ) → lo ≤ la → own_end p r ≤ lo → Begins r v now
-      → From line c at exit now (leaving la r now yields) e q → From line c at exit now (leaving lo r now yields) e q
-  from_lower line c at exit lo la r v now yields e q le own b h =
-      on_from line c at exit lo la r v now now yields e q le own (left_self lo r v now b) h
-
   -- ---- parts as they run
 
   -- a node inside of a node, and a part that leaves what it was given

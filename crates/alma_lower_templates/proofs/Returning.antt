@@ -318,17 +318,3 @@ module _ (p : Program) (tables : Tables) (code : PlainCode) (input : List ℕ) w
     runs = λ line v now b c le held s is. (0, s, omega arith, no_step code input s, omega arith, subst IsOn (sym is.mode) tt);
     ends = ends;
   }
-
-  -- the routines of all levels run: a body at a level runs where routines of the level below do
-  pub routines_run : ((r : ℕ) → r < length p.routines → ParamsFirst (routine_at p r))
-      → ((r : ℕ) → r < length p.routines → Stands code (start_at code r) (routine_code p tables r (start_at code r)))
-      → ((n : ℕ) → ((r : ℕ) → r < length p.routines → RoutineRuns p tables code input (level p input n) r n) → (r line : ℕ)
-      → r < length p.routines
-      → RunsFor p code input true r line (start_at code r) (body_slot r) (body_code_of r)
-      (ev_stmts p input (level p input n) (body_with_lines (routine_at p r))) (suc n))
-      → (n r : ℕ) → r < length p.routines → RoutineRuns p tables code input (level p input n) r n
-  routines_run first stands bodies zero r lt =
-      routine_cut r (start_at code r + length (body_code_of r)) (routine_ends level_0 r (stands r lt))
-  routines_run first stands bodies (suc n) r lt =
-      routine_runs (level p input n) r (suc n) (first r lt) (stands r lt)
-      (λ line. bodies n (λ q small. routines_run first stands bodies n q small) r line lt)

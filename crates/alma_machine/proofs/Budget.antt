@@ -102,10 +102,6 @@ pub record Progress (old new : MachineView) (m : ℕ) : Type 0 where
   pub input : new.input ≡ old.input
   pub shown : new.printed ≡ last_print old.code old.input m old.state old.printed
 
--- no step was made
-pub progress_none : (old : MachineView) → Progress old old 0
-progress_none old = record { state = refl; steps = omega arith; code = refl; input = refl; shown = refl }
-
 -- what a step of this machine is for the machine at first
 step_is : (old now : MachineView) (m : ℕ) → Progress old now m
     → step now.code now.input now.state ≡ step old.code old.input (after old.code old.input m old.state)

@@ -9,7 +9,7 @@ use Rattle.alma_code.specs.Layout.{start_frame}
 use Rattle.alma_code.specs.Picture.{PlainFrame, PlainEntry}
 use Rattle.alma_code.specs.Rules.{IsSound}
 use Rattle.alma_code_laws.proofs.Runs.{start_fits, stays_fit}
-use Rattle.alma_code.specs.Machine.{Mode, State, start, Going, Failing, step, step_in, act, fetch_and_act, with_step_counted, pop}
+use Rattle.alma_code.specs.Machine.{Mode, State, start, Going, Failing, step, step_in, with_step_counted, pop}
 use Rattle.alma_code.specs.Plain.{PlainCode, head_at}
 use Rattle.alma_machine.specs.Needs.{Needs}
 use Rattle.alma_machine.specs.Stands.{Stands}
@@ -26,19 +26,6 @@ pub finds : (code : PlainCode) (s : State) (i : Instr) → Stands code s → s.m
     → Needs code s.now i
 finds code s i keeps going is =
     needs_at code s s i keeps.sound keeps.fits going is refl
-
--- a step of a machine that goes on is what its instruction does
-pub step_fetched : (code : PlainCode) (input : List ℕ) (s : State) (i : Instr) → s.mode ≡ Going → slice_get code.instrs s.at ≡ Some i
-    → act code input i (record s { at = s.at + 1; last = s.at; steps = s.steps + 1 }) ≡ step code input s
-step_fetched code input s i going is = sym (ap (λ m. step_in code input m s) going ∙ ap (λ o. fetch_and_act code input o s) is)
-
--- a step whose instruction is done is that step of the copying code machine
-pub done_is : {E : Type 0} (result : Result Step E) (bytes : List ℕ) (new : State) (code : PlainCode) (input : List ℕ) (s : State)
-    (i : Instr) → s.mode ≡ Going → slice_get code.instrs s.at ≡ Some i
-    → IfOk result (λ answer. step_result answer bytes new ≡ act code input i (record s { at = s.at + 1; last = s.at; steps = s.steps + 1 }))
-    → IfOk result (λ answer. step_result answer bytes new ≡ step code input s)
-done_is (Ok answer) bytes new code input s i going is h = h ∙ step_fetched code input s i going is
-done_is (Err fault) bytes new code input s i going is h = tt
 
 pub ruleset taken = (inside, finds)
 

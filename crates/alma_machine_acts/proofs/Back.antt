@@ -1,16 +1,16 @@
 -- What a return with a number gives.
-use Rattle.std.proofs.Common.{◌≡◌, ℕ, ◌-◌, ◌<◌, ◌≤◌, List, length, get_or, ap, ◌∙◌, arith, Some, length-set}
-use Rattle.std.specs.Prelude.{ℤ, slice_get, Option, Result, Ok, Err}
+use Rattle.std.proofs.Common.{◌≡◌, ℕ, ◌-◌, ◌<◌, ◌≤◌, List, length, get_or, ◌∙◌, arith, length-set}
+use Rattle.std.specs.Prelude.{ℤ, Option, Result, Ok, Err}
 use Rattle.std.proofs.lemmas.List.{length-take-le}
 use Rattle.std.proofs.lemmas.Option.{slice_get_within}
 use Rattle.alma_code.specs.declared.cell.Cell.{Cell}
 use Rattle.alma_code.specs.declared.cell.Cell.TheVariants as cell
 use Rattle.alma_code.specs.declared.instr.Instr.{Instr}
 use Rattle.alma_code.specs.declared.instr.Instr.TheVariants as I
-use Rattle.alma_code.specs.Machine.{State, StepResult, result_to, to_number, answers_return, state_after_leave, with_slot}
+use Rattle.alma_code.specs.Machine.{State, StepResult, result_to, state_after_leave}
 use Rattle.alma_code.specs.Picture.{PlainFrame, last_frame, without_last, frames_with_cell, frame_with, no_frame}
 use Rattle.alma_code.specs.Plain.{PlainCode}
-use Rattle.alma_machine_acts.specs.Rows.{HasNumber, Gives}
+use Rattle.alma_machine_acts.specs.Rows.{Gives}
 use Rattle.alma_base.specs.declared.fault.RunFault.{RunFault}
 use Rattle.alma_machine_acts.specs.Calls.{CallsBack, back_or_fault}
 
@@ -27,17 +27,6 @@ pub back_inside : (code : PlainCode) (now : List PlainFrame) → CallsBack code 
 back_inside code now h =
     let lt = slice_get_within code.instrs h.at (I.Call h.routine h.first h.to) h.call in
     omega (arith, back_at code now h)
-
--- it is the Call
-pub back_call : (code : PlainCode) (now : List PlainFrame) (h : CallsBack code now)
-    → slice_get code.instrs ((last_frame now).back - 1) ≡ Some (I.Call h.routine h.first h.to)
-back_call code now h = ap (slice_get code.instrs) (back_at code now h) ∙ h.call
-
--- a Call's slot that is a number slot gets the number
-pub back_is : (o : Option Instr) (s : State) (r first to : ℕ) (v : ℤ) → o ≡ Some (I.Call r first to) → HasNumber s.now to
-    → result_to o s v ≡ answers_return (with_slot s to (cell.Int v))
-back_is o s r first to v is h = ap (λ o. result_to o s v) is
-    ∙ ap (λ o. to_number o s (λ _. answers_return (with_slot s to (cell.Int v)))) h.kind
 
 -- as many frames after a write
 pub same_frames : (now : List PlainFrame) (f n : ℕ) (c : Cell) → length (frames_with_cell now f n c) ≡ length now

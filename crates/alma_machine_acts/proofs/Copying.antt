@@ -4,7 +4,6 @@ use Rattle.std.proofs.Common.{refl, sym, ap, ◌∙◌, subst, arith}
 use Rattle.std.specs.Prelude.{All}
 use Rattle.std.specs.List.{range_with_len}
 use Rattle.std.proofs.lemmas.List.{drop_more}
-use Rattle.std.proofs.Math.ListN.{drop_of_length-le}
 use Rattle.std.proofs.lemmas.List.Elements.{All-from_get_or}
 use Rattle.std.proofs.lemmas.List.FromFn.{get_or-map-range_with_len, length-map-range_with_len}
 use Rattle.alma_base.specs.Choice.{if_true}
@@ -18,7 +17,6 @@ use Rattle.alma_code.specs.Machine.{State, StepResult, gets_stuck, copies_cells,
 use Rattle.alma_code.specs.Picture.{PlainFrame, cell_at}
 use Rattle.alma_machine_acts.specs.Copies.{cells_from, lay}
 use Rattle.alma_machine_acts.specs.Rows.{HasNumberIn, KeepsNumbers, AreNumbers, GoesOn}
-use Rattle.alma_machine_acts.specs.Steps.{step_result}
 use Rattle.alma_machine_acts.proofs.Stays.{cell_stays}
 use Rattle.alma_machine_acts.proofs.Words.{content_held}
 
@@ -65,10 +63,6 @@ pub record Laid (cells : List Cell) (s t : State) (f i k : ℕ) : Type 0 where
   pub numbers : KeepsNumbers s.now t.now
   pub kept : GoesOn s t
 
-pub laid_none : (cells : List Cell) (s : State) (f i : ℕ) → Laid cells s s f i 0
-laid_none cells s f i = (let z : i ≡ i + 0 = omega arith in
-    record { rest = ap (lay cells s f) z; numbers = λ f n h. h; kept = (refl, λ h. h, refl, refl) })
-
 -- one more
 pub laid_more : (cells : List Cell) (s t : State) (f i k : ℕ) (c : Cell) → k < length cells → c ≡ get_or cells k cell.Unknown → IsContent c
     → AreNumbers s.now f i (length cells) → Laid cells s t f i k
@@ -84,11 +78,6 @@ laid_more cells s t f i k c lt is content numbers so =
       numbers = λ g n h. cell_stays t.now g n f (i + k) c content (so.numbers g n h);
       kept = so.kept;
     }
-
--- all
-pub laid_all : (cells : List Cell) (s t : State) (f i k : ℕ) → length cells ≤ k → Laid cells s t f i k
-    → step_result answer.Went [] t ≡ lay cells s f i
-laid_all cells s t f i k le so = sym (so.rest ∙ ap (λ cs. lay cs t f (i + k)) (drop_of_length-le cells le))
 
 -- the cells that are read, one more
 pub read_more : (now : List PlainFrame) (f i k : ℕ)

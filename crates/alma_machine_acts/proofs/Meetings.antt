@@ -1,11 +1,10 @@
 -- What equations give.
-use Rattle.std.proofs.Common.{◌≡◌, ℕ, suc, ◌+◌, ◌-◌, ◌<◌, ◌^◌, List, [], refl, sym, ap, subst, arith, ◌∙◌}
-use Rattle.std.specs.Prelude.{ℤ, Option, Some, None, Result, Ok, Err, IfOk}
-use Rattle.alma_base.specs.declared.number.Range.{Range}
-use Rattle.alma_code.specs.Machine.{State, StepResult, equation_of_contents, equation, equations}
+use Rattle.std.proofs.Common.{◌≡◌, ℕ, suc, ◌+◌, ◌-◌, ◌<◌, ◌^◌, List, [], sym, ap, subst, arith, ◌∙◌}
+use Rattle.std.specs.Prelude.{None, Result, Ok, Err, IfOk}
+use Rattle.alma_code.specs.Machine.{State, StepResult, equation, equations}
 use Rattle.alma_machine_acts.specs.declared.equations.Met.{Met}
 use Rattle.alma_machine_acts.specs.declared.equations.Met.TheVariants.{Holds, Ends}
-use Rattle.alma_machine_acts.specs.Meets.{Meets, MeetsOn, give_number}
+use Rattle.alma_machine_acts.specs.Meets.{Meets, MeetsOn}
 use Rattle.alma_machine_acts.specs.Rows.{HasNumberIn, IsCells, KeepsNumbers, AreNumbers}
 use Rattle.alma_machine_acts.specs.Steps.{step_result}
 use Rattle.alma_code.specs.Picture.{PlainFrame}
@@ -23,12 +22,6 @@ pub ok_meets : {E : Type 0} (r : Result Met E) (w w' : (State → StepResult) �
     → ((k : State → StepResult) → w' k ≡ w k) → IfOk r (λ met. Meets met w' new)
 ok_meets (Ok met) w w' new h e = meets_as met w w' new e h
 ok_meets (Err f) w w' new h e = tt
-
--- where the first cell knows nothing it is given what the second knows
-pub equated_first : (s : State) (f i : ℕ) (r : Option Range) (g j : ℕ) (t : Option Range) (v : Option ℤ) (k : State → StepResult)
-    → equation_of_contents s f i r None g j t v k ≡ give_number s f i r v k
-equated_first s f i r g j t None k = refl
-equated_first s f i r g j t (Some v) k = refl
 
 -- one of the cells, after writes that keep number slots
 pub cell_of : (old now : List PlainFrame) (f i n k : ℕ) → AreNumbers old f i n → KeepsNumbers old now → k < n → HasNumberIn now f (i + k)
@@ -64,27 +57,11 @@ equations_end n k s t step f i g j lt ends =
     let more : n - k ≡ suc m = omega arith in
     ap (λ x. equations x s f (i + k) g (j + k)) more ∙ ends (λ u. equations m u f (suc (i + k)) g (suc (j + k)))
 
--- with none left they hold
-pub equations_none : (n k : ℕ) (s : State) (f i g j : ℕ) → k ≡ n → equations (n - k) s f (i + k) g (j + k) ≡ step_result answer.Went [] s
-equations_none n k s f i g j e = let none : n - k ≡ 0 = omega arith in ap (λ x. equations x s f (i + k) g (j + k)) none
-
 -- as far as the first k equations have come
 pub record Equated (n : ℕ) (s t : State) (f i g j k : ℕ) : Type 0 where
   pub rest : equations n s f i g j ≡ equations (n - k) t f (i + k) g (j + k)
   pub numbers : KeepsNumbers s.now t.now
   pub kept : MeetsOn Holds s t
-
--- at first
-pub equated_none : (n : ℕ) (s : State) (f i g j : ℕ) → Equated n s s f i g j 0
-equated_none n s f i g j =
-    let a : i ≡ i + 0 = omega arith in
-    let b : j ≡ j + 0 = omega arith in
-    let c : n ≡ n - 0 = omega arith in
-    record {
-      rest = ap (λ x. equations x s f i g j) c ∙ ap (λ x. equations (n - 0) s f x g j) a ∙ ap (λ x. equations (n - 0) s f (i + 0) g x) b;
-      numbers = λ f n h. h;
-      kept = (refl, λ h. h, refl, refl);
-    }
 
 -- and the next one holds
 pub equated_more : (n k : ℕ) (s t u : State) (f i g j : ℕ) → k < n → Equated n s t f i g j k

@@ -1,10 +1,9 @@
 -- The parts of places.
-use Rattle.std.proofs.Common.{◌≡◌, ℕ, zero, suc, ◌+◌, ◌*◌, ◌^◌, ◌<◌, ◌≤◌, List, length, get_or, sym, ap, ◌∙◌, arith, Some}
+use Rattle.std.proofs.Common.{◌≡◌, ℕ, zero, suc, ◌+◌, ◌*◌, ◌^◌, ◌<◌, ◌≤◌, List, length, sym, ap, ◌∙◌, arith, Some}
 use Rattle.std.specs.Prelude.{ℤ, slice_get, true, ◌-ℤ◌, ◌≤ℤ◌, int_le, nat_abs}
 use Rattle.std.specs.Int.Signed.{le_z_yes}
-use Rattle.std.proofs.lemmas.Bool.{and_parts, leb-true}
+use Rattle.std.proofs.lemmas.Bool.{and_parts}
 use Rattle.std.proofs.lemmas.Float.{T_from_true}
-use Rattle.std.proofs.lemmas.Option.{slice_get-get_or}
 use Rattle.std.proofs.Math.Nat.{mul-le-mul_right}
 use Rattle.alma_base.specs.declared.number.Range.{Range}
 use Rattle.alma_base.specs.Numbers.{within, range_size}
@@ -12,7 +11,7 @@ use Rattle.alma_code.specs.declared.cell.Cell.TheVariants as cell
 use Rattle.alma_code.specs.declared.cell.SlotKind.TheVariants as slot
 use Rattle.alma_code.specs.Machine.{State, to_place, put_place, quiet_step, with_slot}
 use Rattle.alma_code.specs.Picture.{PlainFrame, last_frame}
-use Rattle.alma_code.specs.Rules.{place_length, has_room}
+use Rattle.alma_code.specs.Rules.{place_length}
 use Rattle.alma_code.proofs.Ranges.{offset_le}
 use Rattle.alma_code_laws.proofs.Ready.{place_is}
 use Rattle.std.proofs.lemmas.Option.{slice_get_within}
@@ -44,12 +43,6 @@ part_inside r v l e =
     let b : v ≤ℤ r.high = le_z_yes (T_from_true (int_le v r.high) x.1) in
     let le = offset_le r.low v r.high a b in
     omega (arith, mul-le-mul_right l le)
-
--- a range that is there has room for its parts
-pub room_is : (rs : List Range) (n part all : ℕ) (r : Range) → n < length rs → r ≡ get_or rs n r → has_room (slice_get rs n) part all ≡ true
-    → range_size r * part ≤ all
-room_is rs n part all r lt is room =
-    leb-true (range_size r * part) all (sym (ap (λ o. has_room o part all) (slice_get-get_or rs n r lt ∙ ap Some (sym is))) ∙ room)
 
 -- a place goes into a place slot of its length
 pub put_place_is : (s : State) (n frame first l : ℕ) → slice_get (last_frame s.now).kinds n ≡ Some (slot.Place l)

@@ -17,10 +17,6 @@ stack-length [] hs e = refl
 stack-length (x ∷ es) [] e = absurd (omega (arith, e))
 stack-length (x ∷ es) (h ∷ hs) e = ap suc (stack-length es hs (omega (arith, e)))
 
-pub stack-none : (es : List Entry) (hs : List (List PlainFrame)) → length es ≡ 0 → stack_of es hs ≡ []
-stack-none [] hs e = refl
-stack-none (x ∷ es) hs e = absurd (omega (arith, e))
-
 pub stack-push : (es : List Entry) (hs : List (List PlainFrame)) (x : Entry) (fs : List PlainFrame) → length es ≡ length hs
     → stack_of (es ++ x ∷ []) (hs ++ fs ∷ []) ≡ stack_of es hs ++ entry_with x fs ∷ []
 stack-push [] [] x fs e = refl

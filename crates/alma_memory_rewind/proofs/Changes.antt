@@ -1,5 +1,5 @@
 -- What each call keeps.
-use Rattle.std.proofs.Common.{◌≡◌, ◌⊎◌, inl, inr, ℕ, suc, zero, ◌≤◌, ◌<◌, ◌+◌, ◌-◌, Bool, true, false, ◌||◌, nat_lt, nat_le, List, [], ◌∷◌}
+use Rattle.std.proofs.Common.{◌≡◌, ◌⊎◌, inl, inr, ℕ, suc, zero, ◌≤◌, ◌<◌, ◌+◌, ◌-◌, Bool, true, false, ◌||◌, nat_le, List, [], ◌∷◌}
 use Rattle.std.proofs.Common.{◌++◌, length, take, drop, get_or, set, replicate, refl, sym, ap, subst, ◌∙◌, arith, min}
 use Rattle.std.proofs.lemmas.List.{length-append, length-replicate, take_all, get_or_read, set-set, set-get_or, length-set, length_push}
 use Rattle.std.proofs.lemmas.List.{map-append}
@@ -29,12 +29,6 @@ or-right false b h = h
 
 or-left : (a b : Bool) → a ≡ true → (a || b) ≡ true
 or-left a b h = rw h refl
-
-lt-from_true : (a b : ℕ) → nat_lt a b ≡ true → a < b
-lt-from_true a b h = grind (arith, nat_tests)
-
-true-from_lt : (a b : ℕ) → a < b → nat_lt a b ≡ true
-true-from_lt a b h = grind (arith, nat_tests)
 
 pub le-from_true : (a b : ℕ) → nat_le a b ≡ true → a ≤ b
 le-from_true a b h = grind (arith, nat_tests)

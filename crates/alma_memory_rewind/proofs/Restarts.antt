@@ -136,7 +136,3 @@ module _ {T : Type 0} where
       → counter' ≡ length ms → Renews ms ms' trail trail' stamps stamps' counter counter'
   renews ms ms' trail trail' stamps stamps' counter counter' p q z c =
       record { keeps = λ xs s. anew ms ms' trail trail' xs stamps stamps' counter counter' p q z c s }
-
-  pub renews-none : (ms : List Mark) (trail : List (Note T)) (stamps : List ℕ) (counter : ℕ)
-      → Renews ms ms trail trail stamps stamps counter counter
-  renews-none ms trail stamps counter = record { keeps = λ xs s. record { held = refl; sound = s } }

@@ -2,7 +2,7 @@
 use Rattle.std.proofs.Common.{◌≡◌, ◌⊎◌, inl, inr, ℕ, suc, zero, ◌≤◌, ◌<◌, ◌+◌, ◌-◌, true, nat_le, List, [], ◌∷◌, ◌++◌, length, map, take}
 use Rattle.std.proofs.Common.{drop, get_or, set, refl, sym, ap, subst, ◌∙◌, arith, length-append, append_assoc}
 use Rattle.std.proofs.lemmas.List.{map-append, length-map, drop-append-le, get_or_append_left, take_more_set, drop-set-lt, length-take-le}
-use Rattle.std.proofs.lemmas.List.{take-append-drop, length-drop}
+use Rattle.std.proofs.lemmas.List.{length-drop}
 use Rattle.std.proofs.lemmas.Bool.{cases_eq, cases_lt}
 use Rattle.alma_memory_rewind.specs.declared.rewind.Note.{Note}
 use Rattle.alma_memory_rewind.specs.declared.rewind.Mark.{Mark}
@@ -266,10 +266,6 @@ module _ {T : Type 0} where
 
   pub sweeps-none : (ms : List Mark) (trail : List (Note T)) → Sweeps ms trail trail
   sweeps-none ms trail = record { keeps = λ xs stamps counter s. record { held = refl; sound = s } }
-
-  -- the notes that stay and those that are still to be looked at
-  pub sweeps-start : (ms : List Mark) (trail : List (Note T)) (from : ℕ) → Sweeps ms trail (take from trail ++ drop from trail)
-  sweeps-start ms trail from = subst (λ t. Sweeps ms trail t) (sym (take-append-drop from trail)) (sweeps-none ms trail)
 
   -- a note stays
   pub sweeps-keep : (ms : List Mark) (old trail : List (Note T)) (n : Note T) (to at : ℕ) → to ≤ at → to < length trail

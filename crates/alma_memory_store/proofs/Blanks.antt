@@ -1,12 +1,12 @@
 -- Lemmas on the slots that are kept for the next frame.
 use Rattle.std.proofs.Common.{◌≡◌, ℕ, ◌≤◌, ◌<◌, ◌+◌, ◌-◌, List, [], ◌∷◌, ◌++◌, length, map, take, drop, get_or, suc, zero}
 use Rattle.std.proofs.Common.{refl, sym, ap, ◌∙◌, arith}
-use Rattle.std.proofs.lemmas.List.{drop-drop, drop_at, length-map, take_all, take_more}
+use Rattle.std.proofs.lemmas.List.{drop-drop, drop_at, length-map, take_more}
 use Rattle.std.specs.Prelude.{Some, slice_get}
 use Rattle.alma_code.specs.declared.cell.Cell.{Cell}
 use Rattle.alma_code.specs.declared.head.Run.{Run}
 use Rattle.alma_code.specs.Head.{PlainHead}
-use Rattle.alma_code.specs.Layout.{IsHead, blank_cells, blank_of, kinds_of}
+use Rattle.alma_code.specs.Layout.{IsHead, blank_of, kinds_of}
 use Rattle.alma_memory_store.specs.declared.store.Slot.{Slot}
 use Rattle.alma_memory_store.specs.Images.{IsImage}
 use Rattle.alma_memory_store.specs.Regions.{blank_slot, cells_in, kinds_in}
@@ -27,10 +27,6 @@ pub same-more : (xs ys : List Run) (d y : Run) (i : ℕ) → i < length xs → s
 same-more xs ys d y i l e same h =
     take_more xs i d l ∙ (ap (λ v. v ++ get_or xs i d ∷ []) h ∙ (ap (λ z. take i ys ++ z ∷ []) same ∙ sym (take-read y ys i e)))
 
--- all runs are the same
-pub same-all : (xs ys : List Run) (i : ℕ) → length xs ≤ i → length ys ≤ i → take i xs ≡ take i ys → xs ≡ ys
-same-all xs ys i l m h = sym (take_all i xs l) ∙ (h ∙ take_all i ys m)
-
 -- slots before anything is written are an image
 pub fresh-image : (runs all : List Run) (slots : List Slot) (written : ℕ) → runs ≡ all → slots ≡ map blank_slot (kinds_of 0 all)
     → IsImage runs slots written
@@ -40,10 +36,6 @@ fresh-image runs all slots written e f =
       blank = ap (λ v. drop written (cells_in v)) f
           ∙ (ap (λ v. drop written v) (cells-blank (kinds_of 0 all)) ∙ ap (λ ks. drop written (map blank_of ks)) back);
     }
-
--- nothing is an image
-pub no-image : (runs : List Run) (slots : List Slot) (written : ℕ) → runs ≡ [] → slots ≡ [] → IsImage runs slots written
-no-image runs slots written e f = fresh-image runs [] slots written e f
 
 -- more slots may be written
 pub image-later : (runs : List Run) (slots : List Slot) (w n : ℕ) → IsImage runs slots w → w ≤ n → IsImage runs slots n
@@ -71,10 +63,3 @@ laid-image runs slots slots' cells i e f = record {
   kinds = e ∙ i.kinds;
   blank = ap (λ v. drop (length cells) v) f ∙ (drop_at cells (drop (length cells) (cells_in slots)) (length cells) refl ∙ i.blank);
 }
-
--- what the slots hold then
-pub laid-cells : (h : PlainHead) (runs : List Run) (slots slots' : List Slot) (cells : List Cell) → runs ≡ h.runs
-    → IsImage runs slots (length cells) → cells_in slots' ≡ cells ++ drop (length cells) (cells_in slots)
-    → cells_in slots' ≡ cells ++ drop (length cells) (blank_cells h)
-laid-cells h runs slots slots' cells e i f =
-    f ∙ (ap (λ v. cells ++ v) i.blank ∙ ap (λ rs. cells ++ drop (length cells) (map blank_of (kinds_of 0 rs))) e)

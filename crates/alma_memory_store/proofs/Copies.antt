@@ -1,7 +1,7 @@
 -- Lemmas on the copies of a store.
-use Rattle.std.proofs.Common.{◌≡◌, ℕ, suc, zero, ◌≤◌, ◌<◌, lit≤, ◌+◌, ◌-◌, List, [], ◌∷◌, ◌++◌, length, take, drop, get_or, set, refl, sym}
+use Rattle.std.proofs.Common.{◌≡◌, ℕ, suc, zero, ◌≤◌, ◌<◌, lit≤, ◌+◌, ◌-◌, List, [], ◌∷◌, ◌++◌, length, take, drop, get_or, refl, sym}
 use Rattle.std.proofs.Common.{ap, ◌∙◌, arith, length-append}
-use Rattle.std.proofs.lemmas.List.{take-take, length_push, length-take, length-take-le, take_all, take-map, length-map, take_more_set}
+use Rattle.std.proofs.lemmas.List.{take-take, length-take, length-take-le, take_all, take-map, length-map}
 use Rattle.std.proofs.lemmas.List.{take-append-le, map-append}
 use Rattle.std.proofs.Math.Seq.{drop-append_seam}
 use Rattle.alma_base.specs.Limits.{cell_limit, frame_limit}
@@ -291,14 +291,3 @@ starts new more regions r p e t lim b w =
       });
       frames = ap (λ rs. frames_of new (take 1 rs)) e ∙ ap (λ part. frame_with_slots r part ∷ []) own;
     }
-
--- a region in the place of the one that stood there, or at the end
-pub put-there : (regions : List Region) (n : ℕ) (r : Region) → n < length regions
-    → take (n + 1) (set regions n r) ≡ take n regions ++ r ∷ []
-put-there regions n r l = take_more_set regions n r l
-
-pub put-end : (regions : List Region) (n : ℕ) (r : Region) → length regions ≡ n
-    → take (n + 1) (regions ++ r ∷ []) ≡ take n regions ++ r ∷ []
-put-end regions n r e =
-    let all : length (regions ++ r ∷ []) ≤ n + 1 = rw (length_push regions r) (omega (arith, e)) in
-    take_all (n + 1) (regions ++ r ∷ []) all ∙ sym (ap (λ xs. xs ++ r ∷ []) (take_all n regions (omega (arith, e))))

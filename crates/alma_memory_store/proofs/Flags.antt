@@ -56,11 +56,6 @@ on-ok (Err e) P Q f h = h
 
 -- ---- a frame that is entered
 
-pub extend-kept : (xs ys : List Bool) (p : ℕ) → get_or xs p false ≡ true → get_or (xs ++ ys) p false ≡ true
-extend-kept [] ys p h = absurd (false≢true h)
-extend-kept (x ∷ xs) ys zero h = h
-extend-kept (x ∷ xs) ys (suc p) h = extend-kept xs ys p h
-
 pub enter-kept : (flags flags' : List Bool) (rs : List Region) (r : Region) (base top : ℕ) → AreLaid 0 rs top → end_of 0 rs ≤ base →
     ((p : ℕ) → get_or (take base flags) p false ≡ true → get_or flags' p false ≡ true) → (f s : ℕ) → IsNoted (flags_of flags rs) f s
     → IsNoted (flags_of flags' (rs ++ r ∷ [])) f s

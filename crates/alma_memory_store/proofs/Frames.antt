@@ -184,9 +184,6 @@ length-part r xs l = length-take-le r.slots (drop r.base xs) (rw (length-drop r.
 pub length-cells : (r : Region) (xs : List Slot) → r.base + r.slots ≤ length xs → length (frame_of xs r).cells ≡ r.slots
 length-cells r xs l = length-map (part_of xs r) (λ (s : Slot). s.cell) ∙ length-part r xs l
 
-pub length-kinds : (r : Region) (xs : List Slot) → r.base + r.slots ≤ length xs → length (frame_of xs r).kinds ≡ r.slots
-length-kinds r xs l = length-map (part_of xs r) (λ (s : Slot). s.kind) ∙ length-part r xs l
-
 -- each frame has a kind for each cell
 pub whole-frames : (xs : List Slot) (rs : List Region) → AreWhole (frames_of xs rs)
 whole-frames xs [] = tt

@@ -18,9 +18,6 @@ eq_fact m n e = grind (arith, nat_tests)
 abbrev zeros : List ℕ → Bool
 zeros words = list_all (λ word. nat_eq word 0) words
 
-z0 : (x : List ℕ) → x ≡ x
-z0 x = refl
-
 z1 : (f : ℕ → List ℕ) (d : ℕ) → zeros (d ∷ []) ≡ true → f 0 ≡ f d
 z1 f d e = let p = and_parts (nat_eq d 0) true e in ap f (sym (eq_fact d 0 p.0))
 

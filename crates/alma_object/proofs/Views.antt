@@ -1,15 +1,10 @@
 -- What a view has of the code that it stands for.
-use Rattle.std.proofs.Common.{◌≡◌, ℕ, zero, suc, ◌+◌, ◌≤◌, Bool, true, false, ◌||◌, List, ◌∷◌, length, get_or, take, drop, None, Some, refl}
+use Rattle.std.proofs.Common.{◌≡◌, ℕ, zero, suc, ◌+◌, ◌≤◌, Bool, true, false, ◌||◌, List, ◌∷◌, get_or, take, Some, refl}
 use Rattle.std.proofs.Common.{sym, ap, ◌∙◌, arith}
 use Rattle.std.specs.Prelude.{slice_get}
 use Rattle.std.specs.List.{list_any}
 use Rattle.std.proofs.lemmas.List.Folds.{list_any_more, list_any_at}
 use Rattle.std.proofs.lemmas.Option.{slice_get_within, get_or_from_slice_get}
-use Rattle.std.specs.Prelude.{nat_le}
-use Rattle.std.proofs.lemmas.List.{at_drop_more, at_drop_all}
-use Rattle.alma_base.specs.Choice.{if_true}
-use Rattle.alma_code.specs.Lines.{last_line, known_line}
-use Rattle.alma_code.specs.declared.code.Line.{Line}
 use Rattle.alma_code.specs.Plain.{PlainRoutine, no_routine, start_at}
 use Rattle.alma_object_format.specs.declared.header.Header.{Header}
 use Rattle.alma_object_format.specs.Walk.{start_of, code_end}
@@ -32,16 +27,3 @@ none_more {A = A} p xs i x e fails before =
 -- an item that passes the test
 pub one_passes : {A : Type 0} (p : A → Bool) (xs : List A) (i : ℕ) (x : A) → slice_get xs i ≡ Some x → p x ≡ true → list_any p xs ≡ true
 one_passes p xs i x e passes = list_any_at p xs i x (slice_get_within xs i x e) (ap p (get_or_from_slice_get xs i x x e) ∙ passes)
-
--- the lines, one record further
-pub line_more : (at found : ℕ) (xs : List Line) (k : ℕ) (x : Line) → slice_get xs k ≡ Some x
-    → last_line at (if_true (nat_le x.at at) (λ _. x.line) (λ _. found)) (drop (k + 1) xs) ≡ last_line at found (drop k xs)
-line_more at found xs k x e = sym (at_drop_more (last_line at found) xs k x (slice_get_within xs k x e)
-    ∙ ap (λ y. last_line at found (y ∷ drop (k + 1) xs)) (get_or_from_slice_get xs k x x e))
-
-pub line_all : (at found : ℕ) (xs : List Line) (k : ℕ) → length xs ≤ k → last_line at found (drop k xs) ≡ found
-line_all at found xs k le = at_drop_all (last_line at found) xs k le
-
-pub line_zero : (n : ℕ) → n ≡ 0 → known_line n ≡ None
-line_zero zero e = refl
-line_zero (suc n) e = absurd (omega arith)

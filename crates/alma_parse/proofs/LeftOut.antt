@@ -29,11 +29,6 @@ no_formal_tail [] h = record { becomes = λ d o. refl }
 no_formal_tail (kinds.Semicolon ∷ ks) h = cc
 no_formal_tail (k ∷ ks) h = record { becomes = λ d o. refl }
 
-pub no_params_part : (ks : List Kind) → starts_with kinds.OpenParen ks ≡ false → Becomes (λ o. params_part ∷ o) (λ o. o) ks
-no_params_part [] h = record { becomes = λ d o. refl }
-no_params_part (kinds.OpenParen ∷ ks) h = cc
-no_params_part (k ∷ ks) h = record { becomes = λ d o. refl }
-
 pub no_result_part : (ks : List Kind) → starts_with kinds.Colon ks ≡ false → Becomes (λ o. result_part ∷ o) (λ o. o) ks
 no_result_part [] h = record { becomes = λ d o. refl }
 no_result_part (kinds.Colon ∷ ks) h = cc

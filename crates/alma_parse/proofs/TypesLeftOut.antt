@@ -23,11 +23,6 @@ no_plain_tail [] h = record { becomes = λ d o. refl }
 no_plain_tail (kinds.Comma ∷ ks) h = cc
 no_plain_tail (k ∷ ks) h = record { becomes = λ d o. refl }
 
-pub no_field_list_part : (ks : List Kind) → starts_with kinds.Name ks ≡ false → Becomes (λ o. field_list_part ∷ o) (λ o. o) ks
-no_field_list_part [] h = record { becomes = λ d o. refl }
-no_field_list_part (kinds.Name ∷ ks) h = cc
-no_field_list_part (k ∷ ks) h = record { becomes = λ d o. refl }
-
 pub no_field_list_tail : (ks : List Kind) → starts_with kinds.Semicolon ks ≡ false → Becomes (λ o. field_list_tail ∷ o) (λ o. o) ks
 no_field_list_tail [] h = record { becomes = λ d o. refl }
 no_field_list_tail (kinds.Semicolon ∷ ks) h = cc

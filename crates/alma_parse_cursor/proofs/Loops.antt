@@ -66,6 +66,3 @@ grouped f g h = fun_ext (λ at. regrouped (f at) g h)
 stayed : (x : Option Cursor) → and_then x stay ≡ x
 stayed None = refl
 stayed (Some at) = refl
-
-pub then_stay : (f : Step) → (f >> stay) ≡ f
-then_stay f = fun_ext (λ at. stayed (f at))

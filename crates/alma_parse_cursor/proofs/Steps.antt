@@ -237,11 +237,6 @@ pub instead_extending : {T : Type 0} (r : Result (T × cursors.Cursor) Fault) (s
 instead_extending (Ok x) s n p q d a t m h y = becoming_extends h y
 instead_extending (Err e) s n p q d a t m h y = becoming_fails h y
 
--- what was read first, with what extends it behind
-pub extended_by : {s t : List Kind → List Kind} {n m : Step} {p q r : List Part → List Part} {d : ℕ} {start a b : At}
-    → Becomes q r a.kinds → Reads s n p d d start a → Extends s n r t m d a b → Reads t m (λ o. p (q o)) d d start b
-extended_by {d = d} {start = start} h x y = (becoming_extends h y).extends start _ d x
-
 -- a token that closes a bracket
 pub closed_any : {k : Kind} {d : ℕ} {a b : At} → opens k ≡ false → closes k ≡ true → Passes k a b
     → Reads (λ r. k ∷ r) token (λ o. one k ∷ o) d (pred d) a b

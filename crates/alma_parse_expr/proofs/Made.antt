@@ -43,15 +43,6 @@ module _ {T : Type 0} (s : T → List Kind → List Kind) (n : T → Step) where
   becoming_gives p q d e a h (Ok u) y = becoming h y
   becoming_gives p q d e a h (Err i) y = becoming_fails h y
 
-  -- a part that extends a first one
-  pub extending_gives : (t : List Kind → List Kind) (m : Step) (s' : T → List Kind → List Kind) (n' : T → Step) (p : List Part → List Part)
-      (d : ℕ) (a : At)
-      → ((v : T) → s' v ≡ (λ ks. t (s v ks))) → ((v : T) → n' v ≡ (m >> n v)) → (r : Result (T × cursors.Cursor) Fault)
-      → Gives s n p d d a r
-      → MatchResult r (λ x. Extends t m p (s' x.0) (n' x.0) d a (position_of x.1)) (λ e. Fails e p d a)
-  extending_gives t m s' n' p d a g h (Ok u) y = extending (g u.0) (h u.0) y
-  extending_gives t m s' n' p d a g h (Err i) y = y
-
 module _ {T U : Type 0} (s : T → List Kind → List Kind) (n : T → Step) (s' : U → List Kind → List Kind) (n' : U → Step) where
   -- what is made of a part that extends a first one
   pub made_extends : (t : List Kind → List Kind) (m : Step) (p : List Part → List Part) (d : ℕ) (a : At) (f : T → U)

@@ -34,11 +34,6 @@ takes_quiet Kept i j e = ap (λ (x : SourceSide). x.faults) e
 takes_quiet Finished i j h = h.1
 takes_quiet Passed i j h = h.1
 
--- nor one that was read only where it may be
-reads_quiet : (P : Reading → Due → Type 0) (i j : SourceSide) → ReadsOnly P i j → j.faults ≡ i.faults
-reads_quiet P i j (inl e) = ap (λ (x : SourceSide). x.faults) e
-reads_quiet P i j (inr h) = h.1.1
-
 -- where the input does not stay, something that comes reads it
 takes_read : (P : Reading → Due → Type 0) (r : Reading) (due : Due) (i j : SourceSide) → P r due → Takes r i j → (j ≡ i) ⊎ MayRead P
 takes_read P Kept due i j may e = inl e

@@ -127,10 +127,6 @@ pub few_still : (programs : List PlayerState) (most : ℕ) → All (λ (p : Play
     → All (λ (p : PlayerState). p.state.steps ≤ most + 1) programs
 few_still programs most all = λ j d within. omega (arith, all j d within)
 
-pub few_first : (programs : List PlayerState) → All (λ (p : PlayerState). p.state.steps ≡ 0) programs
-    → All (λ (p : PlayerState). p.state.steps ≤ 0) programs
-few_first programs all = λ j d within. omega (arith, all j d within)
-
 -- so few are far below the greatest number
 pub few_enough : (programs : List PlayerState) (i count : ℕ) → i < count → count ≤ turns_limit
     → All (λ (p : PlayerState). p.state.steps ≤ i) programs

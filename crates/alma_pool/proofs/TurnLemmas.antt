@@ -1,23 +1,15 @@
 -- What a turn is.
 use Rattle.std.proofs.Common.{◌≡◌, ◌∙◌, ℕ, List, ◌++◌, refl, sym, ap}
-use Rattle.std.proofs.lemmas.List.{append-nil}
 use Rattle.std.specs.Prelude.{Option, None, Some, is_some, false}
 use Rattle.alma_code.specs.declared.step.End.{End}
 use Rattle.alma_code.specs.declared.step.Step.{Step}
 use Rattle.alma_code.specs.Plain.{PlainCode}
-use Rattle.alma_code.specs.Machine.{Mode, Going, Failing, Ended, Stuck, State, step, step_in}
+use Rattle.alma_code.specs.Machine.{Mode, Going, Failing, Ended, Stuck, State, step}
 use Rattle.alma_machine_acts.specs.Steps.{step_result, IsLive, ModeAfter}
 use Rattle.alma_code.specs.declared.step.Step.TheVariants as answer
 use Rattle.alma_machine.specs.View.{MachineView, goes_on}
 use Rattle.alma_pool.specs.Ready.{IsReady}
 use Rattle.alma_pool.specs.Pool.{PlayerState, ended_in, take_turn}
-
--- a mode that tells an end is that end
-pub ended_mode : (m : Mode) (e : End) → ended_in m ≡ Some e → m ≡ Ended e
-ended_mode Going e h = cc h
-ended_mode Failing e h = cc h
-ended_mode (Ended d) e h = ap Ended (cc h)
-ended_mode Stuck e h = cc h
 
 -- a live mode tells none
 pub live_mode : (m : Mode) → IsLive m → ended_in m ≡ None
@@ -33,13 +25,6 @@ with_run p s output = record p { state = s; output = output }
 -- a program by its parts
 abbrev pub played : PlainCode → (input : List ℕ) → State → (output : List ℕ) → PlayerState
 played code input state output = record { code = code; input = input; state = state; output = output }
-
--- a turn of a program that has ended changes nothing
-pub ended_turn : (p : PlayerState) (e : End) → ended_in p.state.mode ≡ Some e → take_turn p ≡ p
-ended_turn p e h =
-    let mode = ended_mode p.state.mode e h in
-    ap (λ m. with_run p (step_in p.code p.input m p.state).state (p.output ++ (step_in p.code p.input m p.state).printed)) mode
-    ∙ ap (with_run p p.state) (append-nil p.output)
 
 -- a turn that made a step
 pub step_turn : (p : PlayerState) (a : Step) (printed : List ℕ) (s : State) → step_result a printed s ≡ step p.code p.input p.state

@@ -71,14 +71,6 @@ frame_scene {k} {c} {f} g h le s = record {
 
 -- ---- constants and types
 
-consts_slots : (f : Frame) (xs : List tree.ConstEntry) → (read_consts f xs).slots ≡ f.slots
-consts_slots f [] = refl
-consts_slots f (x ∷ xs) = consts_slots (constant_in f x (read_constant f.scene x.value)) xs
-
-types_slots : (f : Frame) (xs : List tree.TypeEntry) → (read_types f xs).slots ≡ f.slots
-types_slots f [] = refl
-types_slots f (x ∷ xs) = types_slots (type_in f x (read_type f.scene x.type_node)) xs
-
 constant_keeps_entry : (k : Place) (c : ℕ) (t : List PlainShape) (n : ℕ) (v : Option Typing) → When v (IsValue t)
     → EntryKeeps k c t n (constant_entry v)
 constant_keeps_entry k c t n None h = tt
@@ -222,12 +214,3 @@ vars_keep k c f (x ∷ xs) e h le =
     (frame_scene (variables_of f x (read_type f.scene x.type_node)) one (omega arith) one.scene) le
 
 -- ---- frames only rise
-
-pub consts_rise : (f : Frame) (xs : List tree.ConstEntry) → f.slots ≤ (read_consts f xs).slots
-consts_rise f xs = omega (arith, consts_slots f xs)
-
-pub types_rise : (f : Frame) (xs : List tree.TypeEntry) → f.slots ≤ (read_types f xs).slots
-types_rise f xs = omega (arith, types_slots f xs)
-
-pub vars_rise : (f : Frame) (xs : List tree.VarEntry) → f.slots ≤ (read_vars f xs).slots
-vars_rise f xs = vars_up f xs

@@ -254,10 +254,6 @@ Paired [] (b ∷ ys) = ⊥
 Paired (a ∷ xs) [] = ⊥
 Paired (a ∷ xs) (b ∷ ys) = Alike a b × Paired xs ys
 
-pub nothing_paired : Paired [] []
-unfolding Paired
-nothing_paired = tt
-
 paired_extended : (lo : ℕ) (xs ys : List DeclaredName) → Paired xs ys → Extended lo xs ys
 unfolding Paired Extended
 paired_extended lo [] [] h = tt

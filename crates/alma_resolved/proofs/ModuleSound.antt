@@ -47,13 +47,6 @@ headed_plain hs n (entry.Variable shape a) h = tt
 headed_plain hs n (entry.Routine q) h = absurd h
 headed_plain hs n entry.Bad h = h
 
-headed_not_bad : (hs : List (Option Heading)) (n : ℕ) (e : Entry) → Headed hs n e → NotBad n e
-headed_not_bad hs n (entry.Constant shape v) h = tt
-headed_not_bad hs n (entry.Named shape) h = tt
-headed_not_bad hs n (entry.Variable shape a) h = tt
-headed_not_bad hs n (entry.Routine q) h = tt
-headed_not_bad hs n entry.Bad h = h
-
 headed_awaits : (hs : List (Option Heading)) (r : ℕ) (x : tree.DeclTail) (n : ℕ) (e : Entry) → Headed hs n e → Awaits hs r x n e
 headed_awaits hs r x n (entry.Constant shape v) h = tt
 headed_awaits hs r x n (entry.Named shape) h = tt

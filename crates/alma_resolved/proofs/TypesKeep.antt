@@ -115,9 +115,6 @@ AreIndices t is = AllByRecursion (λ i. structured_in t i ≡ false) is
 abbrev pub IsValue : List PlainShape → Typing → Type 0
 IsValue t x = (v : ℤ) → x.constant ≡ Some v → structured_in t x.shape ≡ false
 
-shape_more : (t u : List PlainShape) (a : ℕ) → IsShape t a → IsShape (t ++ u) a
-shape_more t u a h = omega (arith, h, length-append t u)
-
 index_more : (t u : List PlainShape) (f : ShapeOrLimit) → IsIndex t f → IsIndex (t ++ u) f
 index_more t u f h = simple_still t u (number_in f) h
 

@@ -149,12 +149,6 @@ module _ (s : Scene) where
       → (walk.judge_arm s n case earlier (tree.arm k l ls body)).spans ≡ unwrap_or v []
   arm_spans n k case earlier l ls body m v h = ap (λ a. a.spans) (arm_at n k case earlier l ls body) ∙ ap (λ j. unwrap_or j.value []) h
 
-  -- ---- labels in order
-  pub labels_stops : (n : ℕ) (case : Option parts.Typing) (earlier : List parts.Span) (l : tree.Label) (ls : tree.LabelTail) (x : Stop)
-      → Stops (walk.judge_label s n case earlier l).faults x
-      → Stops (labels_judged s n case earlier l ls).faults x
-  labels_stops n case earlier l ls x h = stops_more (walk.judge_label s n case earlier l).faults _ x h
-
   labels_at : (n : ℕ) (case : Option parts.Typing) (earlier : List parts.Span) (l : tree.Label) (ls : tree.LabelTail)
       → walk.judge_labels s n case earlier (tree.more_label l ls) ≡ labels_judged s n case earlier l ls
   unfolding walk.judge_stmts

@@ -1,5 +1,5 @@
 -- What the walk says of designators, as the code meets them.
-use Rattle.std.proofs.Common.{◌≡◌, ℕ, ◌+◌, ◌<◌, ◌≤◌, List, Option, length, get_or, drop, refl, sym, ap, ◌∙◌}
+use Rattle.std.proofs.Common.{◌≡◌, ℕ, ◌+◌, ◌<◌, ◌≤◌, List, Option, length, get_or, drop, refl, ap, ◌∙◌}
 use Rattle.std.proofs.lemmas.List.{drop_all}
 use Rattle.alma_tree.specs.declared.phrase.Expr as de
 use Rattle.alma_tree.specs.declared.phrase.Exprs as dx
@@ -137,7 +137,3 @@ module _ (s : Scene) where
       desig_whole n wanted t f is
       ∙ ap (λ d. at_node t.node (rules.desig_rules s wanted (nodes.is_selected (view.selectors_of t.more.items)) f)
       (judge_selectors s d (view.selectors_of t.more.items))) h
-
-  pub selected_is : (all : List dj.Selector) (b : _) → b ≡ nodes.is_selected (view.selectors_of all)
-      → nodes.is_selected (view.selectors_of all) ≡ b
-  selected_is all b h = sym h

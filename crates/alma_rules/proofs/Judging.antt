@@ -30,11 +30,6 @@ pub answers_as : {A X : Type 0} (j k : Judgement A) (w : X → A) (n : ℕ) (r :
     → Answers j w n r
 answers_as j k w n r is a = subst (λ i. Answers i w n r) (sym is) a
 
--- no rule is broken
-pub fine_answer : {A X : Type 0} (j : Judgement A) (w : X → A) (n : ℕ) (r : Result (Option X) Stop) (v : Option X) → r ≡ Ok v
-    → j ≡ of_value n (option_map w v) → Answers j w n r
-fine_answer j w n r v is h = rw is h
-
 module _ {A : Type 0} (k : ℕ) (rules : Option A → List CheckFault) (j : Judgement A) where
   pub node_part : (e : Stop) → Stops j.faults e → Stops (at_node k rules j).faults e
   node_part e h = stops_more j.faults (broken_at k (rules j.value)) e h

@@ -133,10 +133,6 @@ pub unless_variable : (fs : List CheckFault) (v : Option Denotation) → fs ≡ 
 unless_variable [] v h t = t
 unless_variable (f ∷ fs) v h t = absurd (cc)
 
-unless_is : {A : Type 0} (fs : List CheckFault) (v : Option A) → fs ≡ [] → unless fs v ≡ v
-unless_is [] v h = refl
-unless_is (f ∷ fs) v h = absurd (cc)
-
 -- ---- expressions
 
 -- an expression has a type, and a value in a constant place
@@ -158,11 +154,6 @@ typed_sound s a v t h = typed_there s v (t h)
 pub clash : {A : Type 0} (b : Bool) → b ≡ true → b ≡ false → A
 clash true p q = absurd (cc)
 clash false p q = absurd (cc)
-
-there_map : {A B : Type 0} (f : A → B) (fs : List CheckFault) (v : Option A) → fs ≡ [] → IsThere v → IsThere (option_map f (unless fs v))
-there_map f [] None h t = t
-there_map f [] (Some x) h t = tt
-there_map f (g ∷ fs) v h t = absurd (cc)
 
 -- nodes that stand in no constant place
 pub typed_map : {A : Type 0} (s : Scene) (f : A → Typing) (fs : List CheckFault) (v : Option A) → fs ≡ [] → s.constant ≡ false → IsThere v

@@ -1,10 +1,10 @@
 -- What the walk says of FOR and SOME, as the code meets it.
-use Rattle.std.proofs.Common.{◌≡◌, ℕ, ◌+◌, List, [], ◌++◌, Option, None, Result, refl}
+use Rattle.std.proofs.Common.{◌≡◌, ℕ, ◌+◌, [], ◌++◌, Option, None, Result, refl}
 use Rattle.std.specs.Prelude.{ℤ, pos, option_and_then}
 use Rattle.alma_ir.specs.Tree as ir
 use Rattle.alma_rules.specs.declared.error.Stop.{Stop}
 use Rattle.alma_rules.specs.Numbered as tree
-use Rattle.alma_rules.specs.Judgement.{BrokenRule, Judgement, fine, of_value, broken_at, with}
+use Rattle.alma_rules.specs.Judgement.{Judgement, fine, of_value, broken_at, with}
 use Rattle.alma_rules.specs.Answers.{Stops, Answers}
 use Rattle.alma_rules.specs.Scene.{Scene, found}
 use Rattle.alma_rules.specs.Parts as parts
@@ -12,10 +12,6 @@ use Rattle.alma_rules.specs.StmtRules as stmt_rules
 use Rattle.alma_rules.specs.Nodes as nodes
 use Rattle.alma_rules.specs.Walk as walk
 use Rattle.alma_rules.proofs.Judging.{stops_more}
-
--- one of several lists of faults stops, and those in front of it are empty
-stops_after : (xs ys zs : List BrokenRule) (e : Stop) → xs ≡ [] → Stops ys e → Stops (xs ++ (ys ++ zs)) e
-stops_after xs ys zs e h t = rw h (stops_more ys zs e t)
 
 module _ (s : Scene) where
   -- a loop variable whose name breaks no rule

@@ -87,9 +87,6 @@ pub below : {A : Type 0} (m lo n hi : ℕ) (a : List BrokenRule) (v : Option A) 
 below m lo n hi a v small (inl w, le, h) = higher lo n hi a w (omega (arith, h))
 below m lo n hi a v small (inr p, le, h) = keys_higher (lo * 32) (n * 32 + suc m) (hi * 32) a p.0 (omega (arith, small, h))
 
-bad_unless : {A : Type 0} (f : CheckFault) (fs : List CheckFault) (v : Option A) → IsBad (unless (f ∷ fs) v)
-bad_unless f fs v = tt
-
 -- its own rules behind its parts
 pub own : {A : Type 0} (m lo n hi : ℕ) (a : List BrokenRule) (fs : List CheckFault) (v : Option A) → InOrder 0 m fs → Within lo n a → lo ≤ n
     → n < hi

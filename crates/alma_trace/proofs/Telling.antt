@@ -1,5 +1,5 @@
 -- The text of a run, step after step.
-use Rattle.std.proofs.Common.{◌≡◌, ℕ, suc, ◌+◌, ◌-◌, ◌<◌, List, [], ◌++◌, flat_map, refl, sym, ap, ◌∙◌, arith, append_assoc, zero-add}
+use Rattle.std.proofs.Common.{◌≡◌, ℕ, suc, ◌+◌, ◌-◌, ◌<◌, List, [], ◌++◌, flat_map, refl, sym, ap, ◌∙◌, arith, append_assoc}
 use Rattle.std.specs.Prelude.{Option, true, nat_eq}
 use Rattle.std.specs.Io.KnownBytes.{Appends}
 use Rattle.std.proofs.lemmas.Bool.{eq-eqb}
@@ -58,10 +58,6 @@ pub record IsFront (old : MachineView) (watches : List Watch) (m : ℕ) : Type 0
   pub lines : (behind : List (List (List ℕ))) (k : ℕ)
       → lines_of old watches behind (m + k)
       ≡ lines_of old watches [] m ++ run_lines old.code old.input watches behind k (after old.code old.input m old.state)
-
--- no step did
-pub front_none : (old : MachineView) (watches : List Watch) → IsFront old watches 0
-front_none old watches = record { lines = λ behind k. ap (lines_of old watches behind) (zero-add k) }
 
 -- one step more: its line, and what is behind it where it goes on
 lines_then : (old now new : MachineView) (watches : List Watch) (m : ℕ) (a : Step) → IsFront old watches m → Progress old now m
