@@ -1,4 +1,6 @@
 // The instructions, in the order of their opcodes from 1 on.
+ghost use Rattle.std.specs.Prelude.{◌≡◌};
+ghost use Rattle.alma_code.specs.Rules.{ends_routine};
 
 /// An instruction. Slots are those of the top frame; ranges, texts and routines are numbers in the
 /// tables of the code.
@@ -207,6 +209,23 @@ pub enum Instr {
         link: u32,
         slot: u32,
     },
+}
+
+impl Instr {
+    /// Whether the machine does not simply go on to the next address behind it: one of the five
+    /// forms that may stand last in a routine.
+    pub fn ends_routine(self) -> bool
+        ensures { result ≡ ends_routine self }
+    {
+        matches!(
+            self,
+            Instr::Jump { .. }
+                | Instr::Fail
+                | Instr::Return
+                | Instr::ReturnValue { .. }
+                | Instr::Fault { .. }
+        )
+    }
 }
 
 /// One word of an instruction, by what it names.

@@ -35,7 +35,8 @@ ExactPlace = (ks rest : List Kind) → reading true ks 0 whole ≡ unexpected re
 abbrev pub HasDepth : List Kind → End → Type 0
 HasDepth ks done = depth ks ≤ depth_limit
 HasDepth ks (unexpected rest) = (front : List Kind) × (ks ≡ front ++ rest) × (depth front ≤ depth_limit)
-HasDepth ks (too_deep rest) = (front : List Kind) × (ks ≡ front ++ rest) × (depth front ≤ depth_limit) × (depth_limit < depth (front ++ take 1 rest))
+HasDepth ks (too_deep rest) = (front : List Kind) × (ks ≡ front ++ rest) × (depth front ≤ depth_limit)
+    × (depth_limit < depth (front ++ take 1 rest))
 
 -- The depth passes its limit at no token before the one that is refused, and passes it there where that is too deep.
 abbrev pub ExactDepth : Type 0

@@ -142,7 +142,8 @@ module _ (code : PlainCode) (input : List ℕ) where
       }
 
   -- a failing machine with no entry ends
-  pub no_entry_ends : (t : State) → IsFailing [] t → ((step code input t).state.mode ≡ Ended end.Failed) × ((step code input t).printed ≡ [])
+  pub no_entry_ends : (t : State) → IsFailing [] t → ((step code input t).state.mode ≡ Ended end.Failed)
+      × ((step code input t).printed ≡ [])
   no_entry_ends t h =
       let is : step code input t ≡ machine.pop_or_end (machine.with_step_counted code input t) [] =
       ap (λ m. machine.step_in code input m t) h.mode ∙ ap (machine.pop_or_end (machine.with_step_counted code input t)) h.entries in

@@ -1,23 +1,23 @@
 // Whether a Finish is reached from a Forall alone.
 ghost use Rattle.std.specs.Prelude.{◌≡◌, ℕ, suc, true, get_or, Some};
 ghost use Rattle.alma_code.specs.Plain.{code_of};
-ghost use Rattle.alma_code.specs.Rules.{ends_routine as ends_routine_spec};
+ghost use Rattle.alma_code.specs.Rules.{ends_routine};
 ghost use Rattle.alma_code.specs.declared.instr.Instr.TheVariants as I;
 ghost use Rattle.alma_lower_slots.specs.Inner.Checks.{FitsFlow};
 ghost use Rattle.alma_lower_slots.specs.Slots.{away, is_finish as is_finish_spec, is_forall as is_forall_spec};
 
 use crate::own::instr_at;
-use crate::uses::{away_of, ends_routine, is_finish, is_forall};
+use crate::uses::{away_of, is_finish, is_forall};
 use alma_code::{Code, Instr};
 
 // Whether an instruction ends the flow where a Finish stands at the next address.
 fn ends_before(code: &Code, at: u32, instr: Instr) -> bool
     ensures { result ≡ true → is_finish_spec (get_or (code_of code.now).instrs (suc at) I.Fail)
-        ≡ true → ends_routine_spec instr ≡ true }
+        ≡ true → ends_routine instr ≡ true }
 {
     match at.checked_add(1) {
         None => false,
-        Some(next) => ends_routine(instr) || !is_finish(instr_at(code, next)),
+        Some(next) => instr.ends_routine() || !is_finish(instr_at(code, next)),
     }
 }
 

@@ -1,7 +1,6 @@
 // What an instruction does with slots, and where it leads, as the checker and the analysis ask it.
 ghost use Rattle.std.specs.Prelude.{◌≡◌, ◌++◌, [], ◌∷◌};
 ghost use Rattle.alma_code.specs.Plain.{PlainCode, code_of};
-ghost use Rattle.alma_code.specs.Rules.{ends_routine as ends_routine_spec};
 ghost use Rattle.alma_lower_slots.specs.Slots.{away as away_spec, body_of as body_of_spec, lays_over as lays_over_spec, reads, target_slot};
 ghost use Rattle.alma_lower_slots.specs.Slots.{is_finish as is_finish_spec, is_forall as is_forall_spec};
 ghost use Rattle.alma_lower_slots.specs.Inner.Checks.{arguments, mark_of as mark_of_spec, slots_of};
@@ -34,20 +33,6 @@ pub fn is_forall(instr: Instr) -> bool
     ensures { result ≡ is_forall_spec instr }
 {
     matches!(instr, Instr::Forall { .. })
-}
-
-/// Whether the instruction behind it is not the next one.
-pub fn ends_routine(instr: Instr) -> bool
-    ensures { result ≡ ends_routine_spec instr }
-{
-    matches!(
-        instr,
-        Instr::Jump { .. }
-            | Instr::Fail
-            | Instr::Return
-            | Instr::ReturnValue { .. }
-            | Instr::Fault { .. }
-    )
 }
 
 /// The slot that a Mark writes.

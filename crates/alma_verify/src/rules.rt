@@ -1,6 +1,6 @@
 // The rules of one instruction, one function each.
 ghost use Rattle.std.specs.Prelude.{slice_get, ◌≡◌, ◌<◌, length};
-ghost use Rattle.alma_code.specs.Rules.{IsTable, names_slot as names_slot_spec, rule_4 as rule_4_spec, rule_7 as rule_7_spec, names_entry as names_entry_spec, rule_8 as rule_8_spec, rule_12 as rule_12_spec, ends_routine as ends_routine_spec, rule_5 as rule_5_spec, rule_6 as rule_6_spec, has_room as has_room_spec, is_address as is_address_spec, names_address as names_address_spec, rule_9 as rule_9_spec, rule_10 as rule_10_spec, rule_11 as rule_11_spec, holds_result as holds_result_spec};
+ghost use Rattle.alma_code.specs.Rules.{IsTable, names_slot as names_slot_spec, rule_4 as rule_4_spec, rule_7 as rule_7_spec, names_entry as names_entry_spec, rule_8 as rule_8_spec, rule_12 as rule_12_spec, rule_5 as rule_5_spec, rule_6 as rule_6_spec, has_room as has_room_spec, is_address as is_address_spec, names_address as names_address_spec, rule_9 as rule_9_spec, rule_10 as rule_10_spec, rule_11 as rule_11_spec, holds_result as holds_result_spec};
 ghost use Rattle.alma_verify.specs.Seen.{AreFit};
 
 use crate::kinds::{is_link, is_link_of, is_mark, is_number, is_place, is_place_of};
@@ -129,21 +129,6 @@ pub fn rule_12<R: CodeReader>(reader: &R, routine: u32, instr: Instr) -> bool
     }
 }
 
-/// Whether it is one of the five forms that rule 11 lets stand last in a routine, after which the
-/// machine does not simply go on to the next address.
-pub fn ends_routine(instr: Instr) -> bool
-    ensures { result ≡ ends_routine_spec instr }
-{
-    matches!(
-        instr,
-        Instr::Jump { .. }
-            | Instr::Fail
-            | Instr::Return
-            | Instr::ReturnValue { .. }
-            | Instr::Fault { .. }
-    )
-}
-
 /// Rule 5: Local, Global, Same and Field make places of cells that are there, and Own, Chain, Outer
 /// and OuterSame agree with the routine that a link leads to.
 #[tactic(auto, unfolding(alma_code::specs::Rules::rule_5))]
@@ -229,7 +214,7 @@ pub fn rule_11<R: CodeReader>(reader: &R, routine: u32, at: u32, instr: Instr) -
     requires at { at < length (R.code reader.now).instrs }
     ensures { result ≡ rule_11_spec (R.code reader.now) routine at instr }
 {
-    u64::from(at) + 1 < u64::from(reader.code_end(routine)) || ends_routine(instr)
+    u64::from(at) + 1 < u64::from(reader.code_end(routine)) || instr.ends_routine()
 }
 
 /// The part of rule 10 on the result of a call: where the callee `gives` one, `to` is a number slot
