@@ -1,5 +1,5 @@
 -- What the calls that check show.
-use Rattle.std.specs.Prelude.{◌≡◌, ℕ, ℤ, Bool, nat_eq, List, ◌∷◌, Option, None, Some, option_map}
+use Rattle.std.specs.Prelude.{◌≡◌, ℕ, ℤ, Bool, nat_eq, List, [], ◌∷◌, Option, None, Some, option_map}
 use Rattle.std.specs.Prelude.{option_and_then, Result, Ok, Err}
 use Rattle.alma_base.specs.declared.fault.CheckFault.{CheckFault}
 use Rattle.alma_scan.specs.Tokens.{Lexeme}
