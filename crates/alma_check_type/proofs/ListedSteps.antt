@@ -17,7 +17,12 @@ use Rattle.alma_rules.specs.Types.{read_listed}
 use Rattle.alma_rules.specs.Types.{listed_in, add_shape, ShapeOrLimit, formed, too_large}
 use Rattle.alma_rules.proofs.Exprs.{next_of}
 use Rattle.alma_check_type.specs.Told.{Told, told, a_told}
-use Rattle.alma_check_type.specs.Inner.Tables.{shape_of_formed, last_of}
+use Rattle.alma_check_type.specs.Inner.Tables.{shape_of_formed}
+
+-- the token of the last of some names, or one before them
+abbrev pub last_of : ℕ → List tree.Name → ℕ
+last_of token [] = token
+last_of token (x ∷ xs) = last_of x.token xs
 
 -- ---- names that are declared earlier
 

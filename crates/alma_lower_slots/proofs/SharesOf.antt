@@ -5,8 +5,17 @@ use Rattle.alma_code.specs.declared.instr.Instr.{Instr}
 use Rattle.alma_code.specs.declared.instr.Instr.TheVariants as I
 use Rattle.alma_code.specs.Plain.{PlainCode}
 use Rattle.alma_lower_slots.specs.declared.stretch.Stretch.{Stretch}
-use Rattle.alma_lower_slots.specs.Sharing.{SharesAt, SharesIn, Shares, StaysTogether}
-use Rattle.alma_lower_slots.specs.Stretches.{sharing_of, sharing_in, FitsRoutine}
+use Rattle.alma_lower_slots.specs.Sharing.{Sharing, SharesAt, SharesIn, Shares, StaysTogether}
+use Rattle.alma_lower_slots.specs.Stretches.{stretch_at, is_kept, is_live, own_count, sharing_in, FitsRoutine}
+
+-- what the stretches of each routine say, and how many own slots each has
+abbrev pub sharing_of : (own : List ℕ) → (stretches : List (List Stretch)) → Sharing
+sharing_of own stretches = record {
+  own = own_count own;
+  slot = λ r n. (stretch_at (get_or stretches r []) n).slot;
+  kept = λ r n. is_kept (stretch_at (get_or stretches r []) n);
+  live = λ r at n. is_live (stretch_at (get_or stretches r []) n) at;
+}
 
 module _ (code : PlainCode) (own : List ℕ) (all : List (List Stretch)) (r : ℕ) where
   -- the arguments of a Call

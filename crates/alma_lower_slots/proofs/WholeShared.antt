@@ -10,9 +10,8 @@ use Rattle.alma_code.specs.Rules.{IsSound}
 use Rattle.alma_lower_slots.specs.Runs.{HasHeads}
 use Rattle.alma_lower_slots.specs.Sharing.{Sharing, Renames, IsRenamed}
 use Rattle.alma_lower_slots.specs.Inner.Shared.{HeadOver, SharesSoFar, IsSharedOf, code_with}
-use Rattle.alma_lower_slots.specs.Stretches.{sharing_of}
 use Rattle.alma_lower_slots.proofs.NewHeads.{kind_kept, has_head}
-use Rattle.alma_lower_slots.proofs.SharesOf.{shares_of}
+use Rattle.alma_lower_slots.proofs.SharesOf.{sharing_of, shares_of}
 
 -- a routine is renamed
 renamed_routine : (code new : PlainCode) (s : Sharing) (kinds : List SlotKind) (r : ℕ)

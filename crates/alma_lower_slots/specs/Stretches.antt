@@ -29,16 +29,7 @@ is_live x at = not (is_kept x) && (nat_lt x.low at && nat_le at x.high)
 abbrev pub own_count : (own : List ℕ) → ℕ → ℕ
 own_count own r = get_or own r 1
 
--- what the stretches of each routine say, and how many own slots each has
-abbrev pub sharing_of : (own : List ℕ) → (stretches : List (List Stretch)) → Sharing
-sharing_of own stretches = record {
-  own = own_count own;
-  slot = λ r n. (stretch_at (get_or stretches r []) n).slot;
-  kept = λ r n. is_kept (stretch_at (get_or stretches r []) n);
-  live = λ r at n. is_live (stretch_at (get_or stretches r []) n) at;
-}
-
--- the same where each routine has these stretches: for what is said of one routine
+-- what the stretches of a routine say, as if each routine had them, and how many own slots each has
 abbrev pub sharing_in : (own : List ℕ) → (stretches : List Stretch) → Sharing
 sharing_in own stretches = record {
   own = own_count own;

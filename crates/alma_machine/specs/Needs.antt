@@ -75,7 +75,7 @@ Needs code f (I.OuterSame to link slot) = HasPlace f to × HasLink f link × Lea
 Needs code f (I.CopyCells to from) = HasCells f to × HasCells f from × (width f to ≡ width f from)
 Needs code f i = Computes f i
 
--- an instruction that prints, or of the room of numbers
+-- an instruction that prints, or of the group of numbers
 unfoldable pub is_first_form : Instr → Bool
 is_first_form (I.WriteInt value) = true
 is_first_form (I.WriteChar value) = true
@@ -98,7 +98,7 @@ is_first_form (I.Load to from) = true
 is_first_form (I.Known to of) = true
 is_first_form _ = false
 
--- an instruction of the room of jumps, tests and counted loops
+-- an instruction of the group of jumps, tests and counted loops
 unfoldable pub is_control_form : Instr → Bool
 is_control_form (I.InRange value range) = true
 is_control_form (I.Jump to) = true
@@ -109,7 +109,7 @@ is_control_form (I.Fault number) = true
 is_control_form (I.Step counter limit by out) = true
 is_control_form _ = false
 
--- an instruction of the room of places
+-- an instruction of the group of places
 unfoldable pub is_place_form : Instr → Bool
 is_place_form (I.Local to first) = true
 is_place_form (I.Global to first) = true
@@ -118,7 +118,7 @@ is_place_form (I.Field to from offset) = true
 is_place_form (I.Index to from index range) = true
 is_place_form _ = false
 
--- an instruction of the room of cells at places: stores, bindings, equations and copies
+-- an instruction of the group of cells at places: stores, bindings, equations and copies
 unfoldable pub is_cell_form : Instr → Bool
 is_cell_form (I.Store to from) = true
 is_cell_form (I.Bind to value range) = true
@@ -127,7 +127,7 @@ is_cell_form (I.CopyCells to from) = true
 is_cell_form (I.SameCells left right) = true
 is_cell_form _ = false
 
--- an instruction of the room of choice entries
+-- an instruction of the group of choice entries
 unfoldable pub is_choice_form : Instr → Bool
 is_choice_form (I.Mark to) = true
 is_choice_form (I.Cut mark) = true
@@ -138,20 +138,20 @@ is_choice_form (I.Keep mark) = true
 is_choice_form I.Finish = true
 is_choice_form _ = false
 
--- an instruction of the room of calls and returns
+-- an instruction of the group of calls and returns
 unfoldable pub is_call_form : Instr → Bool
 is_call_form (I.Call routine first to) = true
 is_call_form I.Return = true
 is_call_form (I.ReturnValue value) = true
 is_call_form _ = false
 
--- an instruction of the room of reads of the input
+-- an instruction of the group of reads of the input
 unfoldable pub is_read_form : Instr → Bool
 is_read_form (I.ReadInt place range) = true
 is_read_form (I.ReadChar place range) = true
 is_read_form _ = false
 
--- an instruction of the room of links
+-- an instruction of the group of links
 unfoldable pub is_link_form : Instr → Bool
 is_link_form (I.Own to) = true
 is_link_form (I.Chain to link slot) = true
@@ -159,7 +159,7 @@ is_link_form (I.Outer to link first) = true
 is_link_form (I.OuterSame to link slot) = true
 is_link_form _ = false
 
--- what is left to each room in turn: an instruction of none of the rooms before it
+-- what is left to each group in turn: an instruction of none of the groups before it
 abbrev pub LeftToControl : Instr → Type 0
 LeftToControl i = is_first_form i ≡ false
 

@@ -2,7 +2,6 @@
 use Rattle.std.specs.Global.{Global}
 use Rattle.std.specs.Prelude.{ℕ, Bool, true, false, List, [], ◌∷◌, map, slice_get, Option, None, Some, Vec}
 use Rattle.alma_names.specs.Shapes.{PlainShape, PlainField, is_index}
-use Rattle.alma_rules.specs.Numbered as tree
 use Rattle.alma_rules.specs.Types.{ShapeOrLimit, formed, too_large}
 
 -- a truth that a test shows
@@ -31,8 +30,3 @@ fields_view es = map field_view es
 abbrev pub shape_of_formed : ShapeOrLimit → Option ℕ
 shape_of_formed (formed shape) = Some shape
 shape_of_formed too_large = None
-
--- the token of the last of some names, or one before them
-abbrev pub last_of : ℕ → List tree.Name → ℕ
-last_of token [] = token
-last_of token (x ∷ xs) = last_of x.token xs

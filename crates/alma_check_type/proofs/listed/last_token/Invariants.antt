@@ -1,6 +1,6 @@
 use Rattle.std.proofs.Common.{◌≡◌, drop}
 use Rattle.alma_rules.specs.View.{names_of}
-use Rattle.alma_check_type.specs.Inner.Tables.{last_of}
+use Rattle.alma_check_type.proofs.ListedSteps.{last_of}
 use Rattle.alma_check_type.proofs.listed.last_token.Given as goal
 
 abbrev pub invariant-loop-name : goal.invariant-loop-name
