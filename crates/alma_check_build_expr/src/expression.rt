@@ -10,6 +10,7 @@ ghost use Rattle.alma_check_rules.specs.Views.{argument_in, located_of, scene_of
 use alma_base::Range;
 use alma_check_rules::{Callee, Denotation, Env, Formal, Location, Meaning, TypedExpr};
 use alma_ir::{Arg, Call, Desig, Expr, Sel, Stmt, Test};
+use alma_names::{BOOLEAN, CHAR, INTEGER};
 use alma_tree::Mode;
 use std::alloc::{AllocError, Global};
 
@@ -74,35 +75,35 @@ pub fn boolean(meaning: Meaning) -> TypedExpr
     ensures { typing_of result ≡ parts.boolean_typing (meaning_view meaning) }
 {
     TypedExpr {
-        shape: 2,
+        shape: BOOLEAN,
         constant: None,
         meaning,
     }
 }
 
-/// A number, as a constant of type INTEGER (shape 0).
+/// A number, as a constant of type INTEGER.
 pub fn integer(value: i64) -> TypedExpr
     ensures { typing_of result ≡ parts.integer_typing value }
 {
     TypedExpr {
-        shape: 0,
+        shape: INTEGER,
         constant: Some(value),
         meaning: Meaning::Plain(Expr::Const(value)),
     }
 }
 
-/// The byte of a literal, as a constant of type CHAR (shape 1). Its range is not looked at.
+/// The byte of a literal, as a constant of type CHAR. Its range is not looked at.
 pub fn character(value: i64) -> TypedExpr
     ensures { typing_of result ≡ parts.char_typing value }
 {
     TypedExpr {
-        shape: 1,
+        shape: CHAR,
         constant: Some(value),
         meaning: Meaning::Plain(Expr::Const(value)),
     }
 }
 
-/// ORD of an operand: its value and its constant value stay, and the type is INTEGER (shape 0).
+/// ORD of an operand: its value and its constant value stay, and the type is INTEGER.
 pub fn ord(alloc: Global, typed: Option<TypedExpr>) -> Result<Option<TypedExpr>, AllocError>
     ensures { IfOk result (λ t. typing_in t ≡ option_map nodes.ord_typing (typing_in typed)) }
 {
@@ -115,14 +116,14 @@ pub fn ord(alloc: Global, typed: Option<TypedExpr>) -> Result<Option<TypedExpr>,
                 meaning,
             },
         ) => Ok(Some(TypedExpr {
-            shape: 0,
+            shape: INTEGER,
             constant,
             meaning: Meaning::Plain(as_value(alloc, meaning)?),
         })),
     }
 }
 
-/// CHR of an operand, of type CHAR (shape 1). The constant value stays as it is, in any range:
+/// CHR of an operand, of type CHAR. The constant value stays as it is, in any range:
 /// `pass_chr` comes first.
 pub fn chr(alloc: Global, typed: Option<TypedExpr>) -> Result<Option<TypedExpr>, AllocError>
     ensures { IfOk result (λ t. typing_in t ≡ option_map nodes.chr_typing (typing_in typed)) }
@@ -138,7 +139,7 @@ pub fn chr(alloc: Global, typed: Option<TypedExpr>) -> Result<Option<TypedExpr>,
         ) => {
             let value = Box::new(alloc, as_value(alloc, meaning)?)?;
             Ok(Some(TypedExpr {
-                shape: 1,
+                shape: CHAR,
                 constant,
                 meaning: Meaning::Plain(Expr::Chr(value)),
             }))

@@ -13,6 +13,7 @@ use crate::list::one;
 use alma_check_build_expr::{as_test, as_value, desig};
 use alma_check_rules::{Env, Location, Meaning, TypedExpr};
 use alma_ir::{Arm, Branch, Expr, ReadAs, Stmt, Test, WriteAs};
+use alma_names::{CHAR, INTEGER};
 use std::alloc::{AllocError, Global};
 
 /// A statement alone.
@@ -248,7 +249,7 @@ pub fn returned(alloc: Global, typed: Option<TypedExpr>) -> Result<Option<Vec<St
 fn read_as(env: &Env, shape: u32) -> ReadAs
     ensures { result ≡ parts.read_as (scene_of env.now somewhere) shape }
 {
-    if env.has_base(shape, 0) {
+    if env.has_base(shape, INTEGER) {
         ReadAs::Int
     } else {
         ReadAs::Char
@@ -277,9 +278,9 @@ pub fn read(
 fn write_as(env: &Env, shape: u32) -> WriteAs
     ensures { result ≡ parts.write_as (scene_of env.now somewhere) shape }
 {
-    if env.has_base(shape, 0) {
+    if env.has_base(shape, INTEGER) {
         WriteAs::Int
-    } else if env.has_base(shape, 1) {
+    } else if env.has_base(shape, CHAR) {
         WriteAs::Char
     } else {
         WriteAs::Bool

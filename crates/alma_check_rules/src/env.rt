@@ -121,8 +121,7 @@ impl<'e, 's> Env<'e, 's> {
         self.simple(shape).is_none()
     }
 
-    /// Whether this is its base type: INTEGER has the number 0, CHAR 1 and BOOLEAN 2, and any shape
-    /// but a subrange is its own.
+    /// Whether this is its base type. Any shape but a subrange is its own.
     pub fn has_base(&self, shape: u32, base: u32) -> bool
         ensures { result ≡ nat_eq (base_at self.now.shapes shape) base }
     {

@@ -9,6 +9,7 @@ ghost use Rattle.alma_check_rules.specs.Views.{scene_of, found_view, headings_in
 use crate::env::{Env, Formal, Found, Place};
 use crate::part::{Argument, Callee, Denotation, Location, Operand, Operator, TypedExpr, Use};
 use alma_base::CheckFault;
+use alma_names::{BOOLEAN, INTEGER};
 use alma_rules::Stop;
 use alma_tree::{Mode, Relation};
 
@@ -206,7 +207,7 @@ fn not_test(env: &Env, typed: &Option<TypedExpr>) -> bool
 {
     match typed {
         None => false,
-        Some(typed) => !env.has_base(typed.shape, 2),
+        Some(typed) => !env.has_base(typed.shape, BOOLEAN),
     }
 }
 
@@ -216,7 +217,7 @@ pub fn no_integer(env: &Env, typed: &Option<TypedExpr>) -> bool
 {
     match typed {
         None => false,
-        Some(typed) => !env.has_base(typed.shape, 0),
+        Some(typed) => !env.has_base(typed.shape, INTEGER),
     }
 }
 
@@ -262,7 +263,7 @@ fn no_operand(env: &Env, operand: Operand, typed: &Option<TypedExpr>) -> bool
         None => false,
         Some(typed) => {
             let numbers = arithmetic_operand(operand) || operand.signed;
-            (numbers && !env.has_base(typed.shape, 0))
+            (numbers && !env.has_base(typed.shape, INTEGER))
                 || (operand.operator.is_some() && env.is_structured(typed.shape))
         }
     }
@@ -440,7 +441,9 @@ fn no_char(env: &Env, place: Place, typed: &Option<TypedExpr>) -> bool
 {
     match typed {
         None => false,
-        Some(typed) => place.constant && env.has_base(typed.shape, 0) && !is_char(typed.constant),
+        Some(typed) => place.constant
+            && env.has_base(typed.shape, INTEGER)
+            && !is_char(typed.constant),
     }
 }
 

@@ -12,6 +12,7 @@ use crate::labels::Labels;
 use crate::part::{Location, Span, TypedExpr};
 use crate::rule::{no_integer, structured};
 use alma_base::{CheckFault, Range};
+use alma_names::{BOOLEAN, CHAR, INTEGER};
 use alma_rules::Stop;
 
 /// `:=`, behind both sides.
@@ -120,7 +121,7 @@ fn zero_step(env: &Env, typed: &Option<TypedExpr>) -> bool
 {
     match typed {
         None => false,
-        Some(typed) => env.has_base(typed.shape, 0) && is_zero(typed.constant),
+        Some(typed) => env.has_base(typed.shape, INTEGER) && is_zero(typed.constant),
     }
 }
 
@@ -328,7 +329,7 @@ pub fn pass_read(env: &Env, node: u32, located: &Option<Location>) -> Result<(),
     match located {
         None => Ok(()),
         Some(located) => {
-            if !env.has_base(located.shape, 0) && !env.has_base(located.shape, 1) {
+            if !env.has_base(located.shape, INTEGER) && !env.has_base(located.shape, CHAR) {
                 return Err(Stop::Fault(CheckFault::BadRead, node));
             }
             Ok(())
@@ -345,7 +346,10 @@ pub fn pass_write(env: &Env, node: u32, typed: &Option<TypedExpr>) -> Result<(),
         None => Ok(()),
         Some(typed) => {
             let shape = typed.shape;
-            if !env.has_base(shape, 0) && !env.has_base(shape, 1) && !env.has_base(shape, 2) {
+            if !env.has_base(shape, INTEGER)
+                && !env.has_base(shape, CHAR)
+                && !env.has_base(shape, BOOLEAN)
+            {
                 return Err(Stop::Fault(CheckFault::BadWrite, node));
             }
             Ok(())

@@ -14,6 +14,7 @@ use crate::shape::add_rows;
 use alma_base::{CheckFault, NoMemory};
 use alma_check_build_stmt::with_part;
 use alma_check_rules::Env;
+use alma_names::INTEGER;
 use alma_tree::PlainType;
 use std::alloc::Global;
 
@@ -34,7 +35,7 @@ fn is_bad_index(env: &Env, index: ShapeOrLimit) -> bool
     ensures { result ≡ types.bad_index (scene_of env.now somewhere) (formed_of index) }
 {
     match index {
-        ShapeOrLimit::Shape(shape) => shape == 0 || env.is_structured(shape),
+        ShapeOrLimit::Shape(shape) => shape == INTEGER || env.is_structured(shape),
         ShapeOrLimit::TooLarge => true,
     }
 }

@@ -7,6 +7,7 @@ use Rattle.alma_names.specs.declared.block.Declaration.{Declaration}
 use Rattle.alma_names.specs.declared.block.Entry.{Entry}
 use Rattle.alma_names.specs.declared.block.Entry.TheVariants.{Constant, Named, Bad}
 use Rattle.alma_names.specs.declared.shapes.ShapeId.{ShapeId}
+use Rattle.alma_names.specs.Shapes.{integer_shape, char_shape, boolean_shape}
 
 -- a declared name, the token from which on it is visible, and what it stands for
 pub record DeclaredName : Type 0 where
@@ -29,11 +30,11 @@ shape_id n = record { 0 = n }
 -- the names that stand outside each module, visible at each token: three types and two constants
 abbrev pub predeclared : List DeclaredName
 predeclared =
-    record { name = codes "INTEGER"; from = 0; entry = Named (shape_id 0) }
-    ∷ record { name = codes "CHAR"; from = 0; entry = Named (shape_id 1) }
-    ∷ record { name = codes "BOOLEAN"; from = 0; entry = Named (shape_id 2) }
-    ∷ record { name = codes "TRUE"; from = 0; entry = Constant (shape_id 2) (pos 1) }
-    ∷ record { name = codes "FALSE"; from = 0; entry = Constant (shape_id 2) (pos 0) }
+    record { name = codes "INTEGER"; from = 0; entry = Named (shape_id integer_shape) }
+    ∷ record { name = codes "CHAR"; from = 0; entry = Named (shape_id char_shape) }
+    ∷ record { name = codes "BOOLEAN"; from = 0; entry = Named (shape_id boolean_shape) }
+    ∷ record { name = codes "TRUE"; from = 0; entry = Constant (shape_id boolean_shape) (pos 1) }
+    ∷ record { name = codes "FALSE"; from = 0; entry = Constant (shape_id boolean_shape) (pos 0) }
     ∷ []
 
 -- the place of a name in a block

@@ -52,7 +52,19 @@ abbrev pub table_of : List Shape → List PlainShape
 table_of [] = []
 table_of (s ∷ ss) = plain_of s ∷ table_of ss
 
--- the table that each begins with: INTEGER, CHAR and BOOLEAN are the shapes 0, 1 and 2
+-- the number of INTEGER in each table
+abbrev pub integer_shape : ℕ
+integer_shape = 0
+
+-- the number of CHAR in each table
+abbrev pub char_shape : ℕ
+char_shape = 1
+
+-- the number of BOOLEAN in each table
+abbrev pub boolean_shape : ℕ
+boolean_shape = 2
+
+-- the table that each begins with, in which INTEGER, CHAR and BOOLEAN stand by their numbers
 abbrev pub first_shapes : List PlainShape
 first_shapes = integer ∷ char ∷ boolean ∷ []
 

@@ -2,7 +2,7 @@
 ghost use Rattle.std.specs.Prelude.{◌≡◌, ◌^◌, ◌<◌, List, [], ◌∷◌, ◌++◌, Option, None, Some, length, slice_get, IfSome, IfOk, OnErr, OnOk};
 ghost use Rattle.alma_names.specs.Blocks.{DeclaredName, block_of, predeclared, place, seen, entry_in};
 
-use crate::shapes::ShapeId;
+use crate::shapes::{BOOLEAN, CHAR, INTEGER, ShapeId};
 use alma_base::NoMemory;
 use indexmap::IndexMap;
 use std::alloc::Global;
@@ -64,11 +64,11 @@ impl Block {
         ensures { IfOk result (λ block. block ≡ predeclared) }
     {
         let mut block = Block::new(alloc);
-        block.add(alloc, b"INTEGER", 0, Entry::Named(ShapeId(0)))?;
-        block.add(alloc, b"CHAR", 0, Entry::Named(ShapeId(1)))?;
-        block.add(alloc, b"BOOLEAN", 0, Entry::Named(ShapeId(2)))?;
-        block.add(alloc, b"TRUE", 0, Entry::Constant(ShapeId(2), 1))?;
-        block.add(alloc, b"FALSE", 0, Entry::Constant(ShapeId(2), 0))?;
+        block.add(alloc, b"INTEGER", 0, Entry::Named(ShapeId(INTEGER)))?;
+        block.add(alloc, b"CHAR", 0, Entry::Named(ShapeId(CHAR)))?;
+        block.add(alloc, b"BOOLEAN", 0, Entry::Named(ShapeId(BOOLEAN)))?;
+        block.add(alloc, b"TRUE", 0, Entry::Constant(ShapeId(BOOLEAN), 1))?;
+        block.add(alloc, b"FALSE", 0, Entry::Constant(ShapeId(BOOLEAN), 0))?;
         Ok(block)
     }
 

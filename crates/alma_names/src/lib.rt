@@ -8,4 +8,4 @@ mod shapes;
 
 pub use block::{Access, Entry};
 pub use scopes::{DeclareError, Id, Scopes};
-pub use shapes::{FieldOf, Shape, ShapeError, ShapeId, Shapes};
+pub use shapes::{BOOLEAN, CHAR, FieldOf, INTEGER, Shape, ShapeError, ShapeId, Shapes};

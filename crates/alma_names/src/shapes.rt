@@ -12,6 +12,15 @@ use alma_base::{CELL_LIMIT, NoMemory, Range};
 use std::alloc::Global;
 use std::marker::Model;
 
+/// The number of INTEGER in each table of shapes.
+pub const INTEGER: u32 = 0;
+
+/// The number of CHAR in each table of shapes.
+pub const CHAR: u32 = 1;
+
+/// The number of BOOLEAN in each table of shapes.
+pub const BOOLEAN: u32 = 2;
+
 /// The number of a shape in its table.
 #[derive(Clone, Copy, Debug, PartialEq, Eq)]
 pub struct ShapeId(pub u32);
@@ -68,7 +77,7 @@ impl Model for Shapes {
 }
 
 impl Shapes {
-    /// The table of INTEGER, CHAR and BOOLEAN, whose numbers are 0, 1 and 2.
+    /// The table of INTEGER, CHAR and BOOLEAN, in the order of their numbers.
     pub fn new(alloc: Global) -> Result<Shapes, NoMemory>
         ensures { IfOk result (λ shapes. shapes ≡ first_shapes) }
     {

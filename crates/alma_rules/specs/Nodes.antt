@@ -7,6 +7,7 @@ use Rattle.alma_tree.specs.declared.leaf.Sign.{Sign}
 use Rattle.alma_ir.specs.Tree as ir
 use Rattle.alma_rules.specs.Numbered as tree
 use Rattle.alma_rules.specs.Judgement.{Judgement, fine, of_value, at_node, both, after, with, with_some}
+use Rattle.alma_names.specs.Shapes.{integer_shape, char_shape}
 use Rattle.alma_rules.specs.Scene.{Scene, FormalOf, found, literal_at, range}
 use Rattle.alma_rules.specs.Parts.{plain, a_test, Typing, value_of, test_of, without_place, integer_typing, char_typing, boolean_typing}
 use Rattle.alma_rules.specs.Parts.{Location, desig_of, Denotation, denotation, select_index, located_in, Callee, argument_of}
@@ -65,10 +66,10 @@ abbrev pub known_typing : Location → Typing
 known_typing l = boolean_typing (plain (ir.Known (desig_of l)))
 
 abbrev pub ord_typing : Typing → Typing
-ord_typing t = record { shape = 0; constant = t.constant; meaning = plain (value_of t.meaning) }
+ord_typing t = record { shape = integer_shape; constant = t.constant; meaning = plain (value_of t.meaning) }
 
 abbrev pub chr_typing : Typing → Typing
-chr_typing t = record { shape = 1; constant = t.constant; meaning = plain (ir.Chr (value_of t.meaning)) }
+chr_typing t = record { shape = char_shape; constant = t.constant; meaning = plain (ir.Chr (value_of t.meaning)) }
 
 abbrev pub not_typing : Typing → Typing
 not_typing t = boolean_typing (a_test (ir.Not (test_of t.meaning)))

@@ -14,7 +14,7 @@ use Rattle.alma_tree.specs.declared.leaf.MulOperator.{MulOperator}
 use Rattle.alma_tree.specs.declared.leaf.MulOperator.TheVariants as muls
 use Rattle.alma_tree.specs.declared.leaf.Mode.{Mode}
 use Rattle.alma_tree.specs.declared.leaf.Mode.TheVariants as modes
-use Rattle.alma_names.specs.Shapes.{field_at}
+use Rattle.alma_names.specs.Shapes.{field_at, integer_shape, char_shape, boolean_shape}
 use Rattle.std.specs.Prelude.{slice_get}
 use Rattle.alma_ir.specs.declared.phrase.Op.{Op}
 use Rattle.alma_ir.specs.declared.phrase.Op.TheVariants as ops
@@ -65,13 +65,13 @@ abbrev pub without_place : Typing → Typing
 without_place t = record { shape = t.shape; constant = t.constant; meaning = no_place t.meaning }
 
 abbrev pub integer_typing : ℤ → Typing
-integer_typing v = record { shape = 0; constant = Some v; meaning = plain (ir.Const v) }
+integer_typing v = record { shape = integer_shape; constant = Some v; meaning = plain (ir.Const v) }
 
 abbrev pub char_typing : ℤ → Typing
-char_typing v = record { shape = 1; constant = Some v; meaning = plain (ir.Const v) }
+char_typing v = record { shape = char_shape; constant = Some v; meaning = plain (ir.Const v) }
 
 abbrev pub boolean_typing : Meaning → Typing
-boolean_typing m = record { shape = 2; constant = None; meaning = m }
+boolean_typing m = record { shape = boolean_shape; constant = None; meaning = m }
 
 -- ---- designators
 

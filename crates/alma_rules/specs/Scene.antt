@@ -11,7 +11,7 @@ use Rattle.alma_names.specs.declared.block.Access.{Access}
 use Rattle.alma_names.specs.declared.block.Access.TheVariants as access
 use Rattle.alma_names.specs.declared.block.Entry.{Entry}
 use Rattle.alma_names.specs.declared.block.Entry.TheVariants as entry
-use Rattle.alma_names.specs.Shapes.{PlainShape, row, fields, range_at, base_at, cells_at}
+use Rattle.alma_names.specs.Shapes.{PlainShape, row, fields, range_at, base_at, cells_at, integer_shape, char_shape, boolean_shape}
 use Rattle.alma_names.specs.Scopes.{Blocks, visible, entry_at, level_of}
 use Rattle.alma_ir.specs.declared.program.Param.{Param}
 use Rattle.alma_ir.specs.declared.phrase.Root.{Root}
@@ -102,13 +102,13 @@ is_structured s shape = not (is_some (range_at s.shapes shape))
 
 -- the base is INTEGER, CHAR or BOOLEAN
 abbrev pub has_integer : Scene → ℕ → Bool
-has_integer s shape = nat_eq (base s shape) 0
+has_integer s shape = nat_eq (base s shape) integer_shape
 
 abbrev pub has_char : Scene → ℕ → Bool
-has_char s shape = nat_eq (base s shape) 1
+has_char s shape = nat_eq (base s shape) char_shape
 
 abbrev pub has_boolean : Scene → ℕ → Bool
-has_boolean s shape = nat_eq (base s shape) 2
+has_boolean s shape = nat_eq (base s shape) boolean_shape
 
 -- the two types are compatible: simple ones of one base, or one structured type
 abbrev pub are_compatible : Scene → ℕ → ℕ → Bool

@@ -6,7 +6,7 @@ use Rattle.alma_base.specs.declared.fault.CheckFault.TheVariants as fault
 use Rattle.alma_base.specs.Choice.{if_true}
 use Rattle.alma_names.specs.declared.block.Entry.{Entry}
 use Rattle.alma_names.specs.declared.block.Entry.TheVariants as entry
-use Rattle.alma_names.specs.Shapes.{PlainShape, PlainField, listed, sub, row, fields, is_too_large, placed_shape, cell_counts}
+use Rattle.alma_names.specs.Shapes.{PlainShape, PlainField, listed, sub, row, fields, is_too_large, placed_shape, cell_counts, integer_shape}
 use Rattle.alma_names.specs.Blocks.{shape_id}
 use Rattle.alma_names.specs.Scopes.{with_declared}
 use Rattle.alma_rules.specs.Numbered as tree
@@ -101,7 +101,7 @@ pub data ShapeOrLimit : Type 0 where
 
 -- IndexType: an index type of an array that is INTEGER itself or structured
 abbrev pub bad_index : Scene → ShapeOrLimit → Bool
-bad_index s (formed shape) = nat_eq shape 0 || is_structured s shape
+bad_index s (formed shape) = nat_eq shape integer_shape || is_structured s shape
 bad_index s too_large = true
 
 abbrev pub index_type_rules : Scene → Option ShapeOrLimit → List CheckFault
