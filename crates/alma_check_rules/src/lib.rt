@@ -22,6 +22,6 @@ pub use rule::{
     pass_simple, pass_test, structured,
 };
 pub use stmt_rule::{
-    pass_assign, pass_bare_return, pass_by, pass_case, pass_label, pass_loop, pass_loop_name,
-    pass_read, pass_return, pass_write, span_of,
+    is_above, pass_assign, pass_bare_return, pass_by, pass_case, pass_label, pass_loop,
+    pass_loop_name, pass_read, pass_return, pass_write, span_of,
 };

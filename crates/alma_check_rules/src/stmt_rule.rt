@@ -172,15 +172,13 @@ fn other_label(
     }
 }
 
-fn is_above(low: Option<i64>, high: Option<i64>) -> bool
+/// Whether both ends of a range are known, and the low one is greater.
+pub fn is_above(low: Option<i64>, high: Option<i64>) -> bool
     ensures { result ≡ rules.is_above low high }
 {
-    match low {
-        None => false,
-        Some(low) => match high {
-            None => false,
-            Some(high) => high < low,
-        },
+    match (low, high) {
+        (Some(low), Some(high)) => high < low,
+        (None, _) | (_, None) => false,
     }
 }
 

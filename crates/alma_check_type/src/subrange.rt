@@ -1,6 +1,5 @@
 // Subranges.
 ghost use Rattle.std.specs.Prelude.{◌≡◌, Some, IfOk};
-ghost use Rattle.alma_rules.specs.StmtRules as rules;
 ghost use Rattle.alma_check_rules.specs.Views.{scene_of, somewhere};
 ghost use Rattle.alma_check_type.specs.Told.{tells, tells_of, a_told, fault_of, formed_of, told_both, told_sub, sub_of, pair_rules, first_rule};
 
@@ -8,20 +7,8 @@ use crate::reader::Reader;
 use crate::reading::{Bound, BrokenRule, Reading, ShapeOrLimit, earlier};
 use crate::shape::add_sub;
 use alma_base::{CheckFault, NoMemory, Range};
-use alma_check_rules::Env;
+use alma_check_rules::{Env, is_above};
 use std::alloc::Global;
-
-fn is_above(low: Option<i64>, high: Option<i64>) -> bool
-    ensures { result ≡ rules.is_above low high }
-{
-    match low {
-        None => false,
-        Some(low) => match high {
-            None => false,
-            Some(high) => high < low,
-        },
-    }
-}
 
 // The first rule that two bounds break.
 fn bounds_fault(env: &Env, low: Bound, high: Bound) -> Option<CheckFault>
