@@ -40,12 +40,6 @@ pub fn mul_operator(operator: MulOperator) -> Operator
     }
 }
 
-fn is_logical(operator: Operator) -> bool
-    ensures { result ≡ parts.is_logical (operator_view operator) }
-{
-    matches!(operator, Operator::Logical)
-}
-
 /// The place of an operand behind an operator.
 pub fn behind(sort: bool, operator: Operator) -> Operand
     ensures { operand_view result ≡ nodes.operand_behind sort (operator_view operator) }
@@ -71,7 +65,7 @@ pub fn first_add(sign: Option<Sign>, more: &[AddLink]) -> Operand
             let operator = add_operator(link.operator);
             Operand {
                 signed: sign.is_some(),
-                sort: is_logical(operator),
+                sort: operator.is_logical(),
                 operator: Some(operator),
             }
         }
@@ -90,7 +84,7 @@ pub fn first_mul(more: &[MulLink]) -> Operand
         },
         Some(link) => {
             let operator = mul_operator(link.operator);
-            behind(is_logical(operator), operator)
+            behind(operator.is_logical(), operator)
         }
     }
 }
@@ -381,7 +375,7 @@ pub fn any_or(more: &[AddLink]) -> bool
     ensures { result ≡ nodes.any_or (terms_of more.now) }
 {
     for link in more {
-        if is_logical(add_operator(link.operator)) {
+        if add_operator(link.operator).is_logical() {
             return true;
         }
     }
@@ -393,7 +387,7 @@ pub fn any_and(more: &[MulLink]) -> bool
     ensures { result ≡ nodes.any_and (factors_of more.now) }
 {
     for link in more {
-        if is_logical(mul_operator(link.operator)) {
+        if mul_operator(link.operator).is_logical() {
             return true;
         }
     }

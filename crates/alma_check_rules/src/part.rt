@@ -1,4 +1,8 @@
 // What the phrases of a source stand for, as the check builds it.
+ghost use Rattle.std.specs.Prelude.{◌≡◌};
+ghost use Rattle.alma_rules.specs.Parts as parts;
+ghost use Rattle.alma_check_rules.specs.Views.{operator_view};
+
 use alma_base::Range;
 use alma_ir::{Desig, Expr, Op, Root, Sel, Test};
 
@@ -43,6 +47,15 @@ pub enum Denotation {
 pub enum Operator {
     Arithmetic(Op),
     Logical,
+}
+
+impl Operator {
+    /// Whether it is AND or OR.
+    pub fn is_logical(self) -> bool
+        ensures { result ≡ parts.is_logical (operator_view self) }
+    {
+        matches!(self, Operator::Logical)
+    }
 }
 
 /// Where an operand stands: behind a sign, under a first operator that is logical or not, and

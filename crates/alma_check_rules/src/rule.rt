@@ -4,10 +4,10 @@ ghost use Rattle.alma_rules.specs.Judgement.{holds, both_of};
 ghost use Rattle.alma_rules.specs.Answers.{Passes};
 ghost use Rattle.alma_rules.specs.Parts as parts;
 ghost use Rattle.alma_rules.specs.ExprRules as rules;
-ghost use Rattle.alma_check_rules.specs.Views.{scene_of, found_view, headings_in, denoted_in, typing_in, located_in, operand_view, use_view, argument_view, formal_view, operator_view, somewhere, callee_in};
+ghost use Rattle.alma_check_rules.specs.Views.{scene_of, found_view, headings_in, denoted_in, typing_in, located_in, operand_view, use_view, argument_view, formal_view, somewhere, callee_in};
 
 use crate::env::{Env, Formal, Found, Place};
-use crate::part::{Argument, Callee, Denotation, Location, Operand, Operator, TypedExpr, Use};
+use crate::part::{Argument, Callee, Denotation, Location, Operand, TypedExpr, Use};
 use alma_base::CheckFault;
 use alma_names::{BOOLEAN, INTEGER};
 use alma_rules::Stop;
@@ -231,18 +231,12 @@ pub fn structured(env: &Env, typed: &Option<TypedExpr>) -> bool
     }
 }
 
-fn is_logical(operator: Operator) -> bool
-    ensures { result ≡ parts.is_logical (operator_view operator) }
-{
-    matches!(operator, Operator::Logical)
-}
-
 fn logical_operand(operand: Operand) -> bool
     ensures { result ≡ rules.logical_operand (operand_view operand).operator }
 {
     match operand.operator {
         None => false,
-        Some(operator) => is_logical(operator),
+        Some(operator) => operator.is_logical(),
     }
 }
 
@@ -251,7 +245,7 @@ fn arithmetic_operand(operand: Operand) -> bool
 {
     match operand.operator {
         None => false,
-        Some(operator) => !is_logical(operator),
+        Some(operator) => !operator.is_logical(),
     }
 }
 
