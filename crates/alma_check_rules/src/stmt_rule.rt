@@ -10,7 +10,7 @@ ghost use Rattle.alma_check_rules.specs.Views.{scene_of, found_view, headings_in
 use crate::env::{Env, Found, Place, Returns};
 use crate::labels::Labels;
 use crate::part::{Location, Span, TypedExpr};
-use crate::rule::{no_integer, structured};
+use crate::rule::{no_integer, pass_simple};
 use alma_base::{CheckFault, Range};
 use alma_names::{BOOLEAN, CHAR, INTEGER};
 use alma_rules::Stop;
@@ -146,10 +146,7 @@ pub fn pass_case(env: &Env, node: u32, typed: &Option<TypedExpr>) -> Result<(), 
     ensures { Passes node (rules.case_rules {A = parts.Typing} (scene_of env.now somewhere)
         (typing_in typed.now) None) result }
 {
-    if structured(env, typed) {
-        return Err(Stop::Fault(CheckFault::TypeMismatch, node));
-    }
-    Ok(())
+    pass_simple(env, node, typed)
 }
 
 // A label of another base than the value of its CASE.
