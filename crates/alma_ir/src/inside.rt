@@ -25,7 +25,7 @@ pub enum Measure {
 pub fn stmts_inside(body: &[Stmt]) -> Result<usize, NoMemory>
     ensures { IfOk result (λ n. n ≡ stmt_count (stmts_phrases (stmts_list body.now))) }
 {
-    exact(count_stmts(Measure::Statements, body))
+    exact(sum_stmts(Measure::Statements, body))
 }
 
 /// How many statements stand inside a designator; NoMemory where a u64 does not hold their number.
@@ -33,7 +33,7 @@ pub fn stmts_inside(body: &[Stmt]) -> Result<usize, NoMemory>
 pub fn desig_inside(desig: &Desig) -> Result<usize, NoMemory>
     ensures { IfOk result (λ n. n ≡ stmt_count (desig_phrases (desig_of desig.now))) }
 {
-    exact(count_desig(Measure::Statements, desig))
+    exact(sum_desig(Measure::Statements, desig))
 }
 
 /// How many bytes the texts have that stand in a list of statements, or 2^64-1 where that is
@@ -42,7 +42,7 @@ pub fn desig_inside(desig: &Desig) -> Result<usize, NoMemory>
 pub fn text_bytes_inside(body: &[Stmt]) -> u64
     ensures { result ≡ saturate (sum_by text_bytes (stmts_phrases (stmts_list body.now))) }
 {
-    count_stmts(Measure::TextBytes, body)
+    sum_stmts(Measure::TextBytes, body)
 }
 
 // A number that was counted, where the count was not cut off.
@@ -58,7 +58,7 @@ fn exact(count: u64) -> Result<usize, NoMemory>
 
 // What a statement counts by itself.
 #[tactic(auto)]
-fn count_own(measure: Measure, stmt: &Stmt) -> u64
+fn own_amount(measure: Measure, stmt: &Stmt) -> u64
     ensures { result ≡ saturate (own measure (stmt_of stmt.now)) }
 {
     match measure {
@@ -70,216 +70,212 @@ fn count_own(measure: Measure, stmt: &Stmt) -> u64
     }
 }
 
-#[cycle(count)]
-fn count_stmts(measure: Measure, body: &[Stmt]) -> u64
+#[cycle(sum)]
+fn sum_stmts(measure: Measure, body: &[Stmt]) -> u64
     ensures { result ≡ saturate (amount measure (stmts_phrases (stmts_list body.now))) }
 {
     let mut total: u64 = 0;
     for stmt in body {
         total = total
-            .saturating_add(count_own(measure, stmt))
-            .saturating_add(count_stmt(measure, stmt));
+            .saturating_add(own_amount(measure, stmt))
+            .saturating_add(sum_stmt(measure, stmt));
     }
     total
 }
 
 // What stands inside of a statement.
-#[cycle(count)]
-fn count_stmt(measure: Measure, stmt: &Stmt) -> u64
+#[cycle(sum)]
+fn sum_stmt(measure: Measure, stmt: &Stmt) -> u64
     ensures { result ≡ saturate (amount measure (parts (stmt_of stmt.now))) }
 {
     match stmt {
-        Stmt::Test(test) => count_test(measure, test),
-        Stmt::Assign(desig, value, _) => count_desig(measure, desig).saturating_add(count_expr(
+        Stmt::Test(test) => sum_test(measure, test),
+        Stmt::Assign(desig, value, _) => sum_desig(measure, desig).saturating_add(sum_expr(
             measure, value,
         )),
-        Stmt::CopyCells(desig, from) => count_desig(measure, desig).saturating_add(count_desig(
+        Stmt::CopyCells(desig, from) => sum_desig(measure, desig).saturating_add(sum_desig(
             measure, from,
         )),
-        Stmt::If(arms, rest) => count_arms(measure, arms).saturating_add(count_stmts(
-            measure, rest,
-        )),
-        Stmt::While(test, body) => count_test(measure, test).saturating_add(count_stmts(
-            measure, body,
-        )),
-        Stmt::Repeat(body, test) => count_stmts(measure, body).saturating_add(count_test(
+        Stmt::If(arms, rest) => sum_arms(measure, arms).saturating_add(sum_stmts(measure, rest)),
+        Stmt::While(test, body) => sum_test(measure, test).saturating_add(sum_stmts(measure, body)),
+        Stmt::Repeat(body, test) => sum_stmts(measure, body).saturating_add(sum_test(
             measure, test,
         )),
-        Stmt::ForTo(each) => count_loop(measure, each),
-        Stmt::SomeOf(each) => count_loop(measure, each),
+        Stmt::ForTo(each) => sum_loop(measure, each),
+        Stmt::SomeOf(each) => sum_loop(measure, each),
         Stmt::Case(value, arms, rest) => {
-            let total = count_expr(measure, value).saturating_add(count_cases(measure, arms));
+            let total = sum_expr(measure, value).saturating_add(sum_cases(measure, arms));
             match rest {
                 None => total,
-                Some(rest) => total.saturating_add(count_stmts(measure, rest)),
+                Some(rest) => total.saturating_add(sum_stmts(measure, rest)),
             }
         }
-        Stmt::Either(branches) => count_branches(measure, branches),
-        Stmt::Forall(each, body) => count_stmts(measure, each).saturating_add(count_stmts(
+        Stmt::Either(branches) => sum_branches(measure, branches),
+        Stmt::Forall(each, body) => sum_stmts(measure, each).saturating_add(sum_stmts(
             measure, body,
         )),
-        Stmt::Commit(body) => count_stmts(measure, body),
+        Stmt::Commit(body) => sum_stmts(measure, body),
         Stmt::Return(value) => match value {
             None => 0,
-            Some(value) => count_expr(measure, value),
+            Some(value) => sum_expr(measure, value),
         },
-        Stmt::Read(desig, _, _) => count_desig(measure, desig),
-        Stmt::WriteExpr(value, _) => count_expr(measure, value),
+        Stmt::Read(desig, _, _) => sum_desig(measure, desig),
+        Stmt::WriteExpr(value, _) => sum_expr(measure, value),
         Stmt::WriteText(_) | Stmt::WriteLine => 0,
     }
 }
 
-#[cycle(count)]
-fn count_arms(measure: Measure, arms: &[Arm]) -> u64
+#[cycle(sum)]
+fn sum_arms(measure: Measure, arms: &[Arm]) -> u64
     ensures { result ≡ saturate (amount measure (arms_phrases (arms_list arms.now))) }
 {
     let mut total: u64 = 0;
     for arm in arms {
         total = total
-            .saturating_add(count_test(measure, &arm.cond))
-            .saturating_add(count_stmts(measure, &arm.body));
+            .saturating_add(sum_test(measure, &arm.cond))
+            .saturating_add(sum_stmts(measure, &arm.body));
     }
     total
 }
 
-#[cycle(count)]
-fn count_cases(measure: Measure, arms: &[CaseArm]) -> u64
+#[cycle(sum)]
+fn sum_cases(measure: Measure, arms: &[CaseArm]) -> u64
     ensures { result ≡ saturate (amount measure (cases_phrases (cases_list arms.now))) }
 {
     let mut total: u64 = 0;
     for arm in arms {
-        total = total.saturating_add(count_stmts(measure, &arm.body));
+        total = total.saturating_add(sum_stmts(measure, &arm.body));
     }
     total
 }
 
-#[cycle(count)]
-fn count_branches(measure: Measure, branches: &[Branch]) -> u64
+#[cycle(sum)]
+fn sum_branches(measure: Measure, branches: &[Branch]) -> u64
     ensures { result ≡ saturate (amount measure (branches_phrases (branches_list branches.now))) }
 {
     let mut total: u64 = 0;
     for branch in branches {
-        total = total.saturating_add(count_stmts(measure, &branch.body));
+        total = total.saturating_add(sum_stmts(measure, &branch.body));
     }
     total
 }
 
-#[cycle(count)]
-fn count_loop(measure: Measure, each: &Loop) -> u64
+#[cycle(sum)]
+fn sum_loop(measure: Measure, each: &Loop) -> u64
     ensures { result ≡ saturate (amount measure (loop_phrases (loop_of each.now))) }
 {
-    count_desig(measure, &each.var)
-        .saturating_add(count_expr(measure, &each.from))
-        .saturating_add(count_expr(measure, &each.to))
-        .saturating_add(count_stmts(measure, &each.body))
+    sum_desig(measure, &each.var)
+        .saturating_add(sum_expr(measure, &each.from))
+        .saturating_add(sum_expr(measure, &each.to))
+        .saturating_add(sum_stmts(measure, &each.body))
 }
 
-#[cycle(count)]
-fn count_tests(measure: Measure, tests: &[Test]) -> u64
+#[cycle(sum)]
+fn sum_tests(measure: Measure, tests: &[Test]) -> u64
     ensures { result ≡ saturate (amount measure (tests_phrases (tests_list tests.now))) }
 {
     let mut total: u64 = 0;
     for test in tests {
-        total = total.saturating_add(count_test(measure, test));
+        total = total.saturating_add(sum_test(measure, test));
     }
     total
 }
 
-#[cycle(count)]
-fn count_test(measure: Measure, test: &Test) -> u64
+#[cycle(sum)]
+fn sum_test(measure: Measure, test: &Test) -> u64
     ensures { result ≡ saturate (amount measure (test_phrases (test_of test.now))) }
 {
     match test {
-        Test::Value(value) => count_expr(measure, value),
-        Test::Bind(desig, value, _, _) => count_desig(measure, desig).saturating_add(count_expr(
+        Test::Value(value) => sum_expr(measure, value),
+        Test::Bind(desig, value, _, _) => sum_desig(measure, desig).saturating_add(sum_expr(
             measure, value,
         )),
-        Test::Unify(left, _, right, _) => count_desig(measure, left).saturating_add(count_desig(
+        Test::Unify(left, _, right, _) => sum_desig(measure, left).saturating_add(sum_desig(
             measure, right,
         )),
-        Test::SameCells(left, right) => count_desig(measure, left).saturating_add(count_desig(
+        Test::SameCells(left, right) => sum_desig(measure, left).saturating_add(sum_desig(
             measure, right,
         )),
-        Test::Seq(body) => count_stmts(measure, body),
-        Test::And(tests) => count_tests(measure, tests),
-        Test::Or(tests) => count_tests(measure, tests),
-        Test::Not(test) => count_test(measure, test),
-        Test::Call(call) => count_args(measure, &call.args),
+        Test::Seq(body) => sum_stmts(measure, body),
+        Test::And(tests) => sum_tests(measure, tests),
+        Test::Or(tests) => sum_tests(measure, tests),
+        Test::Not(test) => sum_test(measure, test),
+        Test::Call(call) => sum_args(measure, &call.args),
     }
 }
 
-#[cycle(count)]
-fn count_expr(measure: Measure, expr: &Expr) -> u64
+#[cycle(sum)]
+fn sum_expr(measure: Measure, expr: &Expr) -> u64
     ensures { result ≡ saturate (amount measure (expr_phrases (expr_of expr.now))) }
 {
     match expr {
         Expr::Const(_) => 0,
-        Expr::Load(desig) => count_desig(measure, desig),
-        Expr::Chain(_, first, links) => count_expr(measure, first).saturating_add(count_links(
+        Expr::Load(desig) => sum_desig(measure, desig),
+        Expr::Chain(_, first, links) => sum_expr(measure, first).saturating_add(sum_links(
             measure, links,
         )),
-        Expr::Compare(_, left, right) => count_expr(measure, left).saturating_add(count_expr(
+        Expr::Compare(_, left, right) => sum_expr(measure, left).saturating_add(sum_expr(
             measure, right,
         )),
-        Expr::Truth(test) => count_test(measure, test),
-        Expr::Known(desig) => count_desig(measure, desig),
-        Expr::Chr(value) => count_expr(measure, value),
-        Expr::Call(call) => count_args(measure, &call.args),
+        Expr::Truth(test) => sum_test(measure, test),
+        Expr::Known(desig) => sum_desig(measure, desig),
+        Expr::Chr(value) => sum_expr(measure, value),
+        Expr::Call(call) => sum_args(measure, &call.args),
     }
 }
 
-#[cycle(count)]
-fn count_links(measure: Measure, links: &[Link]) -> u64
+#[cycle(sum)]
+fn sum_links(measure: Measure, links: &[Link]) -> u64
     ensures { result ≡ saturate (amount measure (links_phrases (links_list links.now))) }
 {
     let mut total: u64 = 0;
     for link in links {
-        total = total.saturating_add(count_expr(measure, &link.operand));
+        total = total.saturating_add(sum_expr(measure, &link.operand));
     }
     total
 }
 
-#[cycle(count)]
-fn count_args(measure: Measure, args: &[Arg]) -> u64
+#[cycle(sum)]
+fn sum_args(measure: Measure, args: &[Arg]) -> u64
     ensures { result ≡ saturate (amount measure (args_phrases (args_list args.now))) }
 {
     let mut total: u64 = 0;
     for arg in args {
-        total = total.saturating_add(count_arg(measure, arg));
+        total = total.saturating_add(sum_arg(measure, arg));
     }
     total
 }
 
-#[cycle(count)]
-fn count_arg(measure: Measure, arg: &Arg) -> u64
+#[cycle(sum)]
+fn sum_arg(measure: Measure, arg: &Arg) -> u64
     ensures { result ≡ saturate (amount measure (arg_phrases (arg_of arg.now))) }
 {
     match arg {
-        Arg::Value(value, _) => count_expr(measure, value),
-        Arg::Cells(desig) => count_desig(measure, desig),
-        Arg::Place(desig) => count_desig(measure, desig),
-        Arg::MixValue(value, _) => count_expr(measure, value),
-        Arg::MixPlace(desig) => count_desig(measure, desig),
+        Arg::Value(value, _) => sum_expr(measure, value),
+        Arg::Cells(desig) => sum_desig(measure, desig),
+        Arg::Place(desig) => sum_desig(measure, desig),
+        Arg::MixValue(value, _) => sum_expr(measure, value),
+        Arg::MixPlace(desig) => sum_desig(measure, desig),
     }
 }
 
-#[cycle(count)]
-fn count_desig(measure: Measure, desig: &Desig) -> u64
+#[cycle(sum)]
+fn sum_desig(measure: Measure, desig: &Desig) -> u64
     ensures { result ≡ saturate (amount measure (desig_phrases (desig_of desig.now))) }
 {
     let mut total: u64 = 0;
     for sel in &desig.sels {
-        total = total.saturating_add(count_sel(measure, sel));
+        total = total.saturating_add(sum_sel(measure, sel));
     }
     total
 }
 
-#[cycle(count)]
-fn count_sel(measure: Measure, sel: &Sel) -> u64
+#[cycle(sum)]
+fn sum_sel(measure: Measure, sel: &Sel) -> u64
     ensures { result ≡ saturate (amount measure (sel_phrases (sel_of sel.now))) }
 {
     match sel {
         Sel::Field(_, _) => 0,
-        Sel::Index(value, _, _) => count_expr(measure, value),
+        Sel::Index(value, _, _) => sum_expr(measure, value),
     }
 }

@@ -5,7 +5,7 @@ use Rattle.alma_ir.specs.Inner.Measures.{own}
 use Rattle.alma_ir.specs.View.{stmt_of}
 use Rattle.alma_ir.specs.declared.inside.Measure.TheVariants as measure
 use Rattle.alma_ir.proofs.Counted.{no_bytes, text_bytes_of}
-use Rattle.alma_ir.proofs.inside.count_own.Goals as goal
+use Rattle.alma_ir.proofs.inside.own_amount.Goals as goal
 
 pub returns-in-WriteText : goal.returns-in-WriteText
 returns-in-WriteText c =
