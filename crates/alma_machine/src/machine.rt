@@ -80,6 +80,7 @@ fn take<M: MachineMemory, V: CodeView>(
         × (printed.new.items ≡ [])) }
     ensures past { (M.picture registers.new.memory).past ≡ (M.picture registers.old.memory).past }
 {
+    // The count bounds `at + 1`: it is a u32, and `at` is below it.
     let _count = view.code_count();
     let instr = view.instr(registers.at);
     let (at, last, steps) = (registers.at, registers.last, registers.steps);
@@ -278,6 +279,7 @@ impl<'b, 'i> Machine<'b, 'i> {
     pub fn keeps_standing(&self)
         ensures { self.now.running ≡ true → Stands self.now.code self.now.state }
     {
+        // Opens the machine: its invariant is what the contract says.
         let _ = &self.running;
     }
 
@@ -436,6 +438,7 @@ impl<'b, 'i> Machine<'b, 'i> {
                 made += 1;
             }
         }
+        // Opens the machine: its invariant says where it stands while it is running.
         let _ = &self.running;
         RunEnd::StepsOut
     }
