@@ -187,17 +187,6 @@ impl<'b, 'i> Model for Machine<'b, 'i> {
         × (m.running ≡ true → Stands (code_of_verified m.code) (run_state m.registers)) };
 }
 
-// The head of the module body.
-fn main_head<'b>(code: &Verified<'b>) -> RoutineView<'b>
-    ensures { head_of_view result ≡ head_at (code_of_verified code.now) 0 }
-{
-    code.keeps_sound();
-    match code.routine(0) {
-        Some(head) => head,
-        None => unreachable!(),
-    }
-}
-
 // A memory with the frame of the module body alone.
 fn first_memory<'b>(
     alloc: Global,
@@ -229,7 +218,7 @@ impl<'b, 'i> Machine<'b, 'i> {
           printed = [];
         }) }
     {
-        let head = main_head(&code);
+        let head = code.main_head();
         let memory = first_memory(alloc, &code, &head)?;
         Ok(Machine::over(alloc, code, input, memory))
     }
