@@ -7,7 +7,6 @@ ghost use Rattle.alma_code.specs.Picture.{cell_at};
 ghost use Rattle.alma_code.specs.Plain.{head_at, kinds_at};
 ghost use Rattle.alma_code.specs.TraceText.{value_of_name};
 ghost use Rattle.alma_code.specs.declared.cell.Cell.TheVariants as cell;
-ghost use Rattle.alma_object.specs.View.{head_of_view};
 ghost use Rattle.alma_verify.specs.Verified.{code_of_verified};
 ghost use Rattle.alma_memory.specs.Machine.{Scene};
 ghost use Rattle.alma_machine_acts.specs.Steps.{step_result};
@@ -21,7 +20,6 @@ use alma_code::{Cell, Step};
 use alma_machine::advance;
 use alma_machine_acts::{Mode, Registers};
 use alma_memory::MachineMemory;
-use alma_object::RoutineView;
 use alma_trace::push_named;
 use alma_verify::Verified;
 use std::alloc::Global;
@@ -112,17 +110,6 @@ fn step_back(registers: &mut Registers<Tape>, old: Old)
     registers.fails = old.fails;
 }
 
-// The head of the module body.
-fn main_head<'b>(code: &Verified<'b>) -> RoutineView<'b>
-    ensures { head_of_view result ≡ head_at (code_of_verified code.now) 0 }
-{
-    code.keeps_sound();
-    match code.view().routine(0) {
-        Some(head) => head,
-        None => unreachable!(),
-    }
-}
-
 // A memory with the frame of the module body alone.
 fn first_memory(alloc: Global, code: &Verified<'_>) -> Result<Tape, NoMemory>
     ensures now { IfOk result (λ memory.
@@ -130,7 +117,7 @@ fn first_memory(alloc: Global, code: &Verified<'_>) -> Result<Tape, NoMemory>
     ensures held { IfOk result (λ memory. memory.held ≡ []) }
     ensures past { IfOk result (λ memory. memory.past ≡ []) }
 {
-    let head = main_head(code);
+    let head = code.main_head();
     code.keeps_sound();
     Tape::new(alloc, &head)
 }

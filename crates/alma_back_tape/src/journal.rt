@@ -37,10 +37,7 @@ pub struct Journal {
 pub fn sum(left: usize, right: usize) -> Result<usize, NoMemory>
     ensures { IfOk result (λ sum. sum ≡ left + right) }
 {
-    match left.checked_add(right) {
-        Some(sum) => Ok(sum),
-        None => Err(NoMemory),
-    }
+    left.checked_add(right).ok_or(NoMemory)
 }
 
 /// How many changes there may be, where there is room for so many more notes and entries.

@@ -7,8 +7,8 @@ ghost use Rattle.alma_code.specs.declared.instr.Instr.TheVariants as I;
 ghost use Rattle.alma_lower_slots.specs.Inner.Checks.{AreSources, Encloses, FitSlots, FitsSlot, HasStretch, IsCalm, no_sources};
 ghost use Rattle.alma_lower_slots.specs.Slots.{target_slot};
 
+use crate::lookups::{end_of, instr_at, start_of};
 use crate::matters::{is_kept, stretch_of};
-use crate::own::{end_of, instr_at, start_of};
 use crate::sources::Sources;
 use crate::stretch::Stretch;
 use crate::uses::{away_of, lays_over, written_by};

@@ -1,8 +1,8 @@
 // How many slots are a routine's own: its parameters and variables, and what places name or other
 // frames read. What is found here the checker looks over.
 
+use crate::lookups::{end_of, instr_at, start_of};
 use crate::names::{length_of, link_of};
-use crate::own::{end_of, instr_at, start_of};
 use alma_base::NoMemory;
 use alma_code::{Code, Instr, ParamKind, RoutineHead, SlotKind};
 use std::alloc::Global;

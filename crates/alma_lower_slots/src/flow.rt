@@ -6,7 +6,7 @@ ghost use Rattle.alma_code.specs.declared.instr.Instr.TheVariants as I;
 ghost use Rattle.alma_lower_slots.specs.Inner.Checks.{FitsFlow};
 ghost use Rattle.alma_lower_slots.specs.Slots.{away, is_finish as is_finish_spec, is_forall as is_forall_spec};
 
-use crate::own::instr_at;
+use crate::lookups::instr_at;
 use crate::uses::{away_of, is_finish, is_forall};
 use alma_code::{Code, Instr};
 

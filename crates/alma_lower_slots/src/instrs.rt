@@ -7,9 +7,9 @@ ghost use Rattle.alma_lower_slots.specs.Slots.{target_slot};
 ghost use Rattle.alma_lower_slots.specs.Stretches.{stretch_at};
 
 use crate::flow::fits_flow;
+use crate::lookups::{end_of, instr_at, param_count, start_of};
 use crate::matters::{is_kept, reads_matter, stretch_of};
 use crate::names::{begins_own, names_own};
-use crate::own::{end_of, instr_at, param_count, start_of};
 use crate::stretch::Stretch;
 use crate::uses::written_by;
 use alma_code::{Code, Instr, SlotKind};

@@ -3,7 +3,7 @@ ghost use Rattle.std.specs.Prelude.{◌≡◌, IfOk, true};
 ghost use Rattle.alma_code.specs.Plain.{code_of};
 ghost use Rattle.alma_lower_slots.specs.Inner.Checks.{AreMarks, ClearBodies, FitBodies, IsClear, NotesMark};
 
-use crate::own::{end_of, instr_at, start_of};
+use crate::lookups::{end_of, instr_at, start_of};
 use crate::uses::{body_of, is_finish, mark_of};
 use alma_base::NoMemory;
 use alma_code::Code;

@@ -6,7 +6,7 @@ ghost use Rattle.alma_lower_slots.specs.Inner.Checks.{arguments, matters_at, mat
 ghost use Rattle.alma_lower_slots.specs.Slots.{reads, slots_from};
 ghost use Rattle.alma_lower_slots.specs.Stretches.{stretch_at, is_kept as is_kept_spec, is_live as is_live_spec};
 
-use crate::own::param_count;
+use crate::lookups::param_count;
 use crate::stretch::{KEPT, Stretch};
 use crate::uses::reads_of;
 use alma_code::{Code, Instr};

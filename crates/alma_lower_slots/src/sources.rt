@@ -3,7 +3,7 @@ ghost use Rattle.std.specs.Prelude.{IfOk};
 ghost use Rattle.alma_code.specs.Plain.{code_of};
 ghost use Rattle.alma_lower_slots.specs.Inner.Checks.{AreSources, Notes, NotesJump};
 
-use crate::own::{end_of, instr_at, start_of};
+use crate::lookups::{end_of, instr_at, start_of};
 use crate::uses::away_of;
 use alma_base::NoMemory;
 use alma_code::Code;

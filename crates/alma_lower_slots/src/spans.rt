@@ -2,9 +2,9 @@
 // looks over.
 
 use crate::close::is_calm_for;
+use crate::lookups::{end_of, instr_at, param_count, start_of};
 use crate::matters::is_kept;
 use crate::names::own_of;
-use crate::own::{end_of, instr_at, param_count, start_of};
 use crate::sources::{Sources, sources_of};
 use crate::stretch::{KEPT, Stretch};
 use crate::units::{Unit, give_numbers};

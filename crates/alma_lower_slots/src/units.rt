@@ -147,8 +147,8 @@ fn numbers_of(
         firsts.push(0)?;
     }
     let mut next = own;
-    for class in 0..CLASSES {
-        next = number_class(&mut firsts, seats, kinds, class, next);
+    for class in &CLASSES {
+        next = number_class(&mut firsts, seats, kinds, *class, next);
     }
     Ok(firsts)
 }
@@ -158,7 +158,7 @@ fn number_class(
     firsts: &mut [u32],
     seats: &[Seat],
     kinds: &[SlotKind],
-    class: u32,
+    class: SeatClass,
     next: u32,
 ) -> u32 {
     let mut next = next;
@@ -171,19 +171,40 @@ fn number_class(
     next
 }
 
-// How many classes of seats there are.
-const CLASSES: u32 = 6;
+// What a seat is for. Seats of one class are numbered one after another.
+#[derive(Clone, Copy, PartialEq)]
+enum SeatClass {
+    Number,
+    // A place of one cell.
+    OneCell,
+    // A place of any other length.
+    Cells,
+    Mark,
+    Link,
+    // Slots that stay together.
+    Several,
+}
 
-// Seats of one class are numbered one after another.
-fn class_of(seat: Seat, kinds: &[SlotKind]) -> u32 {
+// The classes in the order of their numbers.
+const CLASSES: [SeatClass; 6] = [
+    SeatClass::Number,
+    SeatClass::OneCell,
+    SeatClass::Cells,
+    SeatClass::Mark,
+    SeatClass::Link,
+    SeatClass::Several,
+];
+
+// The class of a seat.
+fn class_of(seat: Seat, kinds: &[SlotKind]) -> SeatClass {
     if seat.len > 1 {
-        return 5;
+        return SeatClass::Several;
     }
     match kinds.get(seat.first as usize) {
-        Some(SlotKind::Number) | None => 0,
-        Some(SlotKind::Place(1)) => 1,
-        Some(SlotKind::Place(_)) => 2,
-        Some(SlotKind::Mark) => 3,
-        Some(SlotKind::Link(_)) => 4,
+        Some(SlotKind::Number) | None => SeatClass::Number,
+        Some(SlotKind::Place(1)) => SeatClass::OneCell,
+        Some(SlotKind::Place(_)) => SeatClass::Cells,
+        Some(SlotKind::Mark) => SeatClass::Mark,
+        Some(SlotKind::Link(_)) => SeatClass::Link,
     }
 }

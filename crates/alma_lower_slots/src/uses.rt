@@ -5,7 +5,7 @@ ghost use Rattle.alma_lower_slots.specs.Slots.{away as away_spec, body_of as bod
 ghost use Rattle.alma_lower_slots.specs.Slots.{is_finish as is_finish_spec, is_forall as is_forall_spec};
 ghost use Rattle.alma_lower_slots.specs.Inner.Checks.{arguments, mark_of as mark_of_spec, slots_of};
 
-use crate::own::has_result;
+use crate::lookups::has_result;
 use alma_code::{Code, Instr};
 
 /// Whether the carry of a FORALL may be laid over the frame before the next address is reached.

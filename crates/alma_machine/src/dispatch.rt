@@ -98,7 +98,7 @@ pub fn act<M: MachineMemory, V: CodeView>(
     }
 }
 
-// Jumps, tests and counted loops, and else the next room.
+// Jumps, tests and counted loops, and else `act_places`.
 #[tactic(auto, unfolding(alma_code::specs::Machine::act, crate::specs::Needs::Needs), using(crate::proofs::Acting::actings))]
 fn act_control<M: MachineMemory, V: CodeView>(
     registers: &mut Registers<M>,
@@ -133,7 +133,7 @@ fn act_control<M: MachineMemory, V: CodeView>(
     }
 }
 
-// Places, and else the next room.
+// Places, and else `act_cells`.
 #[tactic(auto, unfolding(alma_code::specs::Machine::act, crate::specs::Needs::Needs), using(crate::proofs::Acting::actings))]
 fn act_places<M: MachineMemory, V: CodeView>(
     registers: &mut Registers<M>,
@@ -178,7 +178,7 @@ fn act_places<M: MachineMemory, V: CodeView>(
     }
 }
 
-// Cells at places: stores, bindings, equations and copies, and else the next room.
+// Cells at places: stores, bindings, equations and copies, and else `act_choices`.
 #[tactic(auto, unfolding(alma_code::specs::Machine::act, crate::specs::Needs::Needs), using(crate::proofs::Acting::actings))]
 fn act_cells<M: MachineMemory, V: CodeView>(
     registers: &mut Registers<M>,
@@ -218,7 +218,7 @@ fn act_cells<M: MachineMemory, V: CodeView>(
     }
 }
 
-// Choice entries, and else the next room.
+// Choice entries, and else `act_calls`.
 #[tactic(auto, unfolding(alma_code::specs::Machine::act, crate::specs::Needs::Needs), using(crate::proofs::Acting::actings))]
 fn act_choices<M: MachineMemory, V: CodeView>(
     registers: &mut Registers<M>,
@@ -245,7 +245,7 @@ fn act_choices<M: MachineMemory, V: CodeView>(
     }
 }
 
-// Calls and returns, and else the next room.
+// Calls and returns, and else `act_input`.
 #[tactic(auto, unfolding(alma_code::specs::Machine::act, crate::specs::Needs::Needs), using(crate::proofs::Acting::actings))]
 fn act_calls<M: MachineMemory, V: CodeView>(
     registers: &mut Registers<M>,
@@ -271,7 +271,7 @@ fn act_calls<M: MachineMemory, V: CodeView>(
     }
 }
 
-// Reads of the input, and else the next room.
+// Reads of the input, and else `act_links`.
 #[tactic(auto, unfolding(alma_code::specs::Machine::act, crate::specs::Needs::Needs), using(crate::proofs::Acting::actings))]
 fn act_input<M: MachineMemory, V: CodeView>(
     registers: &mut Registers<M>,
@@ -299,7 +299,7 @@ fn act_input<M: MachineMemory, V: CodeView>(
     }
 }
 
-// Links, and else the next room.
+// Links: no other instruction is left.
 #[tactic(auto, unfolding(alma_code::specs::Machine::act, crate::specs::Needs::Needs), using(crate::proofs::Acting::actings))]
 fn act_links<M: MachineMemory, V: CodeView>(
     registers: &mut Registers<M>,

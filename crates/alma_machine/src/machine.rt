@@ -80,6 +80,7 @@ fn take<M: MachineMemory, V: CodeView>(
         × (printed.new.items ≡ [])) }
     ensures past { (M.picture registers.new.memory).past ≡ (M.picture registers.old.memory).past }
 {
+    // The count bounds `at + 1`: it is a u32, and `at` is below it.
     let _count = view.code_count();
     let instr = view.instr(registers.at);
     let (at, last, steps) = (registers.at, registers.last, registers.steps);
@@ -186,17 +187,6 @@ impl<'b, 'i> Model for Machine<'b, 'i> {
         × (m.running ≡ true → Stands (code_of_verified m.code) (run_state m.registers)) };
 }
 
-// The head of the module body.
-fn main_head<'b>(code: &Verified<'b>) -> RoutineView<'b>
-    ensures { head_of_view result ≡ head_at (code_of_verified code.now) 0 }
-{
-    code.keeps_sound();
-    match code.routine(0) {
-        Some(head) => head,
-        None => unreachable!(),
-    }
-}
-
 // A memory with the frame of the module body alone.
 fn first_memory<'b>(
     alloc: Global,
@@ -228,7 +218,7 @@ impl<'b, 'i> Machine<'b, 'i> {
           printed = [];
         }) }
     {
-        let head = main_head(&code);
+        let head = code.main_head();
         let memory = first_memory(alloc, &code, &head)?;
         Ok(Machine::over(alloc, code, input, memory))
     }
@@ -278,6 +268,7 @@ impl<'b, 'i> Machine<'b, 'i> {
     pub fn keeps_standing(&self)
         ensures { self.now.running ≡ true → Stands self.now.code self.now.state }
     {
+        // Opens the machine: its invariant is what the contract says.
         let _ = &self.running;
     }
 
@@ -436,6 +427,7 @@ impl<'b, 'i> Machine<'b, 'i> {
                 made += 1;
             }
         }
+        // Opens the machine: its invariant says where it stands while it is running.
         let _ = &self.running;
         RunEnd::StepsOut
     }

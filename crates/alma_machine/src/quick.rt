@@ -21,6 +21,7 @@ fn take_quickly<V: CodeView>(registers: &mut Registers<Memory>, view: &V, input:
     ensures { StepsQuickly result (run_state registers.old) (run_state registers.new)
         (step (V.code view.now) input.now (run_state registers.old)) }
 {
+    // The count bounds `at + 1`: it is a u32, and `at` is below it.
     let _count = view.code_count();
     let (at, last) = (registers.at, registers.last);
     let record = view.record(at);

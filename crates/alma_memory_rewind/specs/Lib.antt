@@ -1,3 +1,4 @@
+pub mod Limits
 pub mod PlainRewind
 pub mod Trail
 pub mod Sound

@@ -2,9 +2,10 @@
 ghost use Rattle.std.specs.Prelude.{◌≡◌, ℕ, ◌+◌, ◌-◌, ◌<◌, ◌≤◌, [], ◌∷◌, ◌++◌, length, take, drop};
 ghost use Rattle.std.specs.Prelude.{set, replicate, slice_get, slice_index_or, Some, true, false};
 ghost use Rattle.std.specs.Prelude.{is_ok, IsOk, OnOk, OnErr, IfOk, if◌then◌else◌};
-ghost use Rattle.std.specs.Prelude.{◌^◌, vec_len, vec_capacity};
+ghost use Rattle.std.specs.Prelude.{vec_len, vec_capacity};
 ghost use Rattle.std.specs.BTreeMap.{get};
 ghost use Rattle.std.specs.Ordering.{nat_cmp};
+ghost use Rattle.alma_memory_rewind.specs.Limits.{item_limit, serial_limit};
 ghost use Rattle.alma_memory_rewind.specs.PlainRewind.{IsOlds, needed, top_copy};
 ghost use Rattle.alma_memory_rewind.specs.Trail.{before, first_of, held_of, is_free, last_mark};
 ghost use Rattle.alma_memory_rewind.specs.Trail.{trail_for};
@@ -17,10 +18,10 @@ use std::alloc::Global;
 use std::collections::BTreeMap;
 use std::marker::Model;
 
-// So many notes are never looked at.
-const FIRST_LIMIT: usize = 256;
+// So many notes may stand in the trail before the first cut that looks at them.
+const UNSWEPT_NOTES: usize = 256;
 
-// A list has no more items, so that a note has room for the place of each.
+// The greatest number of items, so that a note has room for the place of each.
 const ITEM_LIMIT: usize = 4_294_967_296;
 
 // The greatest serial, and the greatest number of copies.
@@ -66,8 +67,9 @@ pub struct Rewind<T> {
 }
 
 impl<T> Model for Rewind<T> {
-    ghost use Rattle.std.specs.Prelude.{◌-◌, ◌^◌, ◌≤◌, length, min};
+    ghost use Rattle.std.specs.Prelude.{◌-◌, ◌≤◌, length, min};
     ghost use Rattle.std.specs.Vec.{vec_len, vec_capacity};
+    ghost use Rattle.alma_memory_rewind.specs.Limits.{item_limit, serial_limit};
     ghost use Rattle.alma_memory_rewind.specs.PlainRewind.{PlainRewind, rewound_code};
 
     ghost Value = { PlainRewind T };
@@ -81,13 +83,13 @@ impl<T> Model for Rewind<T> {
       now = r.items.items;
       held = held_of r.trail.items r.items.items r.marks.items;
       noted = noted_to r.marks.items (length r.items.items) r.stamps.items;
-      choice_room = min (vec_capacity r.marks - vec_len r.marks) (2 ^ 32 - 1 - vec_len r.marks);
+      choice_room = min (vec_capacity r.marks - vec_len r.marks) (serial_limit - vec_len r.marks);
       trail_room = vec_capacity r.trail - vec_len r.trail;
     } };
 
     ghost invariant = { λ r.
         IsSound r.marks.items r.trail.items r.items.items r.stamps.items r.counter
-        × (length r.items.items ≤ 2 ^ 32) };
+        × (length r.items.items ≤ item_limit) };
 }
 
 // The place of a note, as an index.
@@ -171,7 +173,7 @@ fn add_note<T: Copy>(
     serial: u32,
 )
     requires wide { at < length stamps.old.items }
-    requires few { at < 2 ^ 32 }
+    requires few { at < item_limit }
     requires room { vec_len trail.old < vec_capacity trail.old }
     ensures stamps { stamps.new.items ≡ set stamps.old.items at serial }
     ensures trail { trail.new.items ≡ trail.old.items
@@ -199,7 +201,7 @@ fn note_old<T: Copy>(
     at: usize,
 )
     requires inside { at < length items.now }
-    requires few { length items.now ≤ 2 ^ 32 }
+    requires few { length items.now ≤ item_limit }
     requires wide { at < length stamps.old.items }
     requires free { free ≡ is_free marks.now at (slice_index_or stamps.old.items at 0) }
     requires room { free ≡ false → vec_len trail.old < vec_capacity trail.old }
@@ -358,7 +360,7 @@ fn sweep_top<T: Copy>(marks: &[Mark], trail: &mut Vec<Note<T>>)
 
 // How many notes may stand before they are looked at again.
 fn limit_for(len: usize) -> usize {
-    FIRST_LIMIT.max(len.saturating_mul(2))
+    UNSWEPT_NOTES.max(len.saturating_mul(2))
 }
 
 // Sweeps where more notes stand than the limit, and answers the next limit.
@@ -401,7 +403,7 @@ fn push_all<T: Copy>(items: &mut Vec<T>, more: &[T])
 
 // Numbers the copies from the bottom.
 fn number(marks: &mut Vec<Mark>)
-    requires { length marks.old.items < 2 ^ 32 }
+    requires { length marks.old.items ≤ serial_limit }
     ensures marks { marks.new.items ≡ with_serials (length marks.old.items) 1 marks.old.items }
     ensures len { vec_len marks.new ≡ vec_len marks.old }
     ensures capacity { vec_capacity marks.new ≡ vec_capacity marks.old }
@@ -448,10 +450,10 @@ fn clear_stamps(stamps: &mut Vec<u32>)
 // Answers the greatest serial.
 #[cold]
 fn restart<T: Copy>(marks: &mut Vec<Mark>, stamps: &mut Vec<u32>, trail: &mut Vec<Note<T>>) -> u32
-    requires few { length marks.old.items < 2 ^ 32 - 1 }
+    requires few { length marks.old.items < serial_limit }
     ensures keeps { (counter : ℕ) → Renews marks.old.items marks.new.items trail.old.items
         trail.new.items stamps.old.items stamps.new.items counter result }
-    ensures below { result < 2 ^ 32 - 1 }
+    ensures below { result < serial_limit }
     ensures marks { vec_len marks.new ≡ vec_len marks.old }
     ensures capacity { vec_capacity marks.new ≡ vec_capacity marks.old }
     ensures len { vec_len trail.new ≡ vec_len trail.old }
@@ -470,10 +472,10 @@ fn room_for_serial<T: Copy>(
     trail: &mut Vec<Note<T>>,
     counter: u32,
 ) -> u32
-    requires few { length marks.old.items < 2 ^ 32 - 1 }
+    requires few { length marks.old.items < serial_limit }
     ensures keeps { Renews marks.old.items marks.new.items trail.old.items trail.new.items
         stamps.old.items stamps.new.items counter result }
-    ensures below { result < 2 ^ 32 - 1 }
+    ensures below { result < serial_limit }
     ensures marks { vec_len marks.new ≡ vec_len marks.old }
     ensures capacity { vec_capacity marks.new ≡ vec_capacity marks.old }
     ensures len { vec_len trail.new ≡ vec_len trail.old }
@@ -497,7 +499,7 @@ impl<T: Copy> Rewind<T> {
             trail: Vec::new(alloc),
             marks: Vec::new(alloc),
             counter: 0,
-            limit: FIRST_LIMIT,
+            limit: UNSWEPT_NOTES,
         }
     }
 
@@ -518,7 +520,7 @@ impl<T: Copy> Rewind<T> {
             trail: Vec::new(alloc),
             marks: Vec::new(alloc),
             counter: 0,
-            limit: FIRST_LIMIT,
+            limit: UNSWEPT_NOTES,
         })
     }
 

@@ -11,7 +11,7 @@ ghost use Rattle.alma_memory_store.specs.Regions.{AreLaid, frames_of};
 ghost use Rattle.alma_memory_store.specs.PlainStore.{IsState};
 
 use crate::carry::SlotPlace;
-use crate::store::{Region, Slot, number_in, place_of};
+use crate::store::{Region, Slot, live_number, number_in, place_of};
 use alma_base::NoMemory;
 use alma_code::Cell;
 use alma_memory_rewind::Rewind;
@@ -114,16 +114,7 @@ impl<'a> Past<'a> {
     fn number(&self, place: SlotPlace) -> Option<Cell>
         ensures { result ≡ number_of self.now.now place.frame place.slot }
     {
-        let frame = place.frame as usize;
-        if frame >= self.live {
-            return None;
-        }
-        let region = self.regions.get(frame);
-        if place.slot >= region.slots {
-            return None;
-        }
-        let at = place_of(region, place.slot as usize, self.slots.len());
-        number_in(self.slots.get(at))
+        live_number(self.slots, self.regions, self.live, place)
     }
 
     // The cell of a place that was one.

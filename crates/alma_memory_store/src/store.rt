@@ -9,8 +9,8 @@ ghost use Rattle.alma_memory_store.specs.Carries.{carry_of_entries};
 ghost use Rattle.alma_memory_store.specs.Frames.{AreLive, AreWhole};
 ghost use Rattle.alma_memory_store.specs.Numbers.{number_of};
 ghost use Rattle.alma_memory_store.specs.Past.{SameGain};
-ghost use Rattle.alma_memory_store.specs.Regions.{AreLaid, cells_in, end_of, kinds_in, no_slot, slot_number};
-ghost use Rattle.alma_memory_store.specs.PlainStore.{IsNoted};
+ghost use Rattle.alma_memory_store.specs.Regions.{AreLaid, cells_in, end_of, frames_of, kinds_in, no_slot, slot_number};
+ghost use Rattle.alma_memory_store.specs.PlainStore.{IsNoted, IsState};
 
 use crate::carry::SlotPlace;
 use crate::past::Past;
@@ -293,16 +293,7 @@ impl Store {
     pub fn number(&self, place: SlotPlace) -> Option<Cell>
         ensures { result ≡ number_of self.now.now place.frame place.slot }
     {
-        let frame = place.frame as usize;
-        if frame >= self.live {
-            return None;
-        }
-        let region = self.regions.get(frame);
-        if place.slot >= region.slots {
-            return None;
-        }
-        let at = place_of(region, place.slot as usize, self.slots.len());
-        number_in(self.slots.get(at))
+        live_number(&self.slots, &self.regions, self.live, place)
     }
 
     /// Whether the place is a number slot of a live frame.
@@ -483,6 +474,29 @@ pub fn number_in(slot: Slot) -> Option<Cell>
         SlotKind::Number => Some(slot.cell),
         SlotKind::Place(_) | SlotKind::Mark | SlotKind::Link(_) => None,
     }
+}
+
+/// The cell of a place, where it is a number slot of one of the `live` frames.
+pub fn live_number(
+    slots: &Rewind<Slot>,
+    regions: &Rewind<Region>,
+    live: usize,
+    place: SlotPlace,
+) -> Option<Cell>
+    requires { IsState slots.now.now regions.now.now live }
+    ensures { result ≡ number_of (frames_of slots.now.now (take live regions.now.now)) place.frame
+        place.slot }
+{
+    let frame = place.frame as usize;
+    if frame >= live {
+        return None;
+    }
+    let region = regions.get(frame);
+    if place.slot >= region.slots {
+        return None;
+    }
+    let at = place_of(region, place.slot as usize, slots.len());
+    number_in(slots.get(at))
 }
 
 // Makes the copies, for which there is room.

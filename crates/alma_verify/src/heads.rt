@@ -5,6 +5,7 @@ ghost use Rattle.alma_base.specs.Limits.{record_limit};
 ghost use Rattle.alma_code.specs.Layout.{holds_param as holds_param_spec, hold_params};
 ghost use Rattle.alma_code.specs.Plain.{head_at, kinds_at};
 ghost use Rattle.alma_code.specs.Rules.{IsTable, is_global, is_main as is_main_spec, rule_1 as rule_1_spec, last_end, names_routine as names_routine_spec, rule_2 as rule_2_spec, has_position as has_position_spec, rule_3 as rule_3_spec};
+ghost use Rattle.alma_verify.specs.Routines.{HasRoutine};
 
 use crate::kinds::{is_link_of, is_number, is_place_of};
 use crate::reader::CodeReader;
@@ -31,8 +32,7 @@ pub fn are_globals<R: CodeReader>(reader: &R) -> bool
 /// Each other routine passes.
 #[tactic(auto, using(crate::proofs::Starts::mains))]
 pub fn is_main<R: CodeReader>(reader: &R, routine: u32) -> bool
-    requires routine { routine < length (R.code reader.now).routines }
-    requires table { IsTable (R.code reader.now) }
+    requires { HasRoutine (R.code reader.now) routine }
     ensures { result ≡ is_main_spec (R.code reader.now) routine }
 {
     if routine > 0 {
@@ -43,8 +43,7 @@ pub fn is_main<R: CodeReader>(reader: &R, routine: u32) -> bool
 
 /// Rule 1: the routine has an instruction, and routine 0 is as a module body must be.
 pub fn rule_1<R: CodeReader>(reader: &R, routine: u32) -> bool
-    requires routine { routine < length (R.code reader.now).routines }
-    requires table { IsTable (R.code reader.now) }
+    requires { HasRoutine (R.code reader.now) routine }
     ensures { result ≡ rule_1_spec (R.code reader.now) routine }
 {
     start_of(reader, routine) < reader.code_end(routine) && is_main(reader, routine)
@@ -109,8 +108,7 @@ pub fn rule_2<R: CodeReader>(reader: &R, routine: u32) -> bool
 /// a number slot for each cell of Cells, and one slot for the other kinds.
 #[tactic(auto, using(crate::proofs::Starts::nexts))]
 pub fn holds_param<R: CodeReader>(reader: &R, routine: u32, param: CodeParam, slot: u64) -> bool
-    requires routine { routine < length (R.code reader.now).routines }
-    requires table { IsTable (R.code reader.now) }
+    requires routine { HasRoutine (R.code reader.now) routine }
     requires slot { slot < 2 ^ 62 }
     ensures { result ≡ holds_param_spec (kinds_at (R.code reader.now) routine) param.kind
         param.cells slot }
@@ -130,8 +128,7 @@ pub fn holds_param<R: CodeReader>(reader: &R, routine: u32, param: CodeParam, sl
 /// The part of rule 3 on parameters: the first slots of the routine are theirs, in order.
 #[tactic(auto, using(crate::proofs::Starts::param_steps))]
 pub fn are_params<R: CodeReader>(reader: &R, routine: u32) -> bool
-    requires routine { routine < length (R.code reader.now).routines }
-    requires table { IsTable (R.code reader.now) }
+    requires routine { HasRoutine (R.code reader.now) routine }
     requires few { length (head_at (R.code reader.now) routine).params ≤ record_limit }
     ensures { result ≡ hold_params (kinds_at (R.code reader.now) routine)
         (head_at (R.code reader.now) routine).params 0 }
@@ -151,8 +148,7 @@ pub fn are_params<R: CodeReader>(reader: &R, routine: u32) -> bool
 /// routine passes.
 #[tactic(auto, using(crate::proofs::Starts::mains))]
 pub fn has_position<R: CodeReader>(reader: &R, routine: u32) -> bool
-    requires routine { routine < length (R.code reader.now).routines }
-    requires table { IsTable (R.code reader.now) }
+    requires { HasRoutine (R.code reader.now) routine }
     ensures { result ≡ has_position_spec (R.code reader.now) routine }
 {
     routine > 0 || is_number(kind_of(reader, 0, 0))
@@ -160,8 +156,7 @@ pub fn has_position<R: CodeReader>(reader: &R, routine: u32) -> bool
 
 /// Rule 3: the first slots are those of the parameters, and slot 0 of routine 0 is a number slot.
 pub fn rule_3<R: CodeReader>(reader: &R, routine: u32) -> bool
-    requires routine { routine < length (R.code reader.now).routines }
-    requires table { IsTable (R.code reader.now) }
+    requires routine { HasRoutine (R.code reader.now) routine }
     requires few { length (head_at (R.code reader.now) routine).params ≤ record_limit }
     ensures { result ≡ rule_3_spec (R.code reader.now) routine }
 {

@@ -2,6 +2,7 @@
 ghost use Rattle.std.specs.Prelude.{◌≡◌, ◌<◌, MatchOption, None, nat_lt, length, get_or, slice_get, slice_index_or};
 ghost use Rattle.alma_code.specs.Plain.{PlainCode, head_at, end_at, kinds_at};
 ghost use Rattle.alma_code.specs.Rules.{IsTable, kind_in, fit_arguments};
+ghost use Rattle.alma_verify.specs.Routines.{HasRoutine};
 ghost use Rattle.alma_verify.specs.Runs.{no_global, Covers};
 
 use alma_base::Range;
@@ -52,8 +53,7 @@ pub trait CodeReader {
 
     /// The run over a slot.
     fn run_over(&self, routine: u32, slot: u64) -> Option<Run>
-        requires routine { routine < length (code self.now).routines }
-        requires table { IsTable (code self.now) }
+        requires { HasRoutine (code self.now) routine }
         ensures { MatchOption result (kind_in (code self.now) routine slot ≡ None)
             (λ run. Covers (kinds_at (code self.now) routine) slot run) };
 

@@ -1,6 +1,7 @@
 // The rules of one instruction, one function each.
 ghost use Rattle.std.specs.Prelude.{slice_get, ◌≡◌, ◌<◌, length};
-ghost use Rattle.alma_code.specs.Rules.{IsTable, names_slot as names_slot_spec, rule_4 as rule_4_spec, rule_7 as rule_7_spec, names_entry as names_entry_spec, rule_8 as rule_8_spec, rule_12 as rule_12_spec, rule_5 as rule_5_spec, rule_6 as rule_6_spec, has_room as has_room_spec, is_address as is_address_spec, names_address as names_address_spec, rule_9 as rule_9_spec, rule_10 as rule_10_spec, rule_11 as rule_11_spec, holds_result as holds_result_spec};
+ghost use Rattle.alma_code.specs.Rules.{names_slot as names_slot_spec, rule_4 as rule_4_spec, rule_7 as rule_7_spec, names_entry as names_entry_spec, rule_8 as rule_8_spec, rule_12 as rule_12_spec, rule_5 as rule_5_spec, rule_6 as rule_6_spec, has_room as has_room_spec, is_address as is_address_spec, names_address as names_address_spec, rule_9 as rule_9_spec, rule_10 as rule_10_spec, rule_11 as rule_11_spec, holds_result as holds_result_spec};
+ghost use Rattle.alma_verify.specs.Routines.{HasRoutine};
 ghost use Rattle.alma_verify.specs.Seen.{AreFit};
 
 use crate::kinds::{is_link, is_link_of, is_mark, is_number, is_place, is_place_of};
@@ -15,8 +16,7 @@ use alma_code::{Instr, NO_CASE, NO_RETURN, Word};
 /// Rule 4 for one word: a slot word names a slot of the kind that the form states, and not the
 /// input position. All other words pass.
 pub fn names_slot<R: CodeReader>(reader: &R, routine: u32, word: Word) -> bool
-    requires routine { routine < length (R.code reader.now).routines }
-    requires table { IsTable (R.code reader.now) }
+    requires { HasRoutine (R.code reader.now) routine }
     ensures { result ≡ names_slot_spec (R.code reader.now) routine word }
 {
     match word {
@@ -40,8 +40,7 @@ pub fn names_slot<R: CodeReader>(reader: &R, routine: u32, word: Word) -> bool
 /// Rule 4: each slot word is below the routine's slots, of the kind that the form states, and not
 /// slot 0 of routine 0.
 pub fn rule_4<R: CodeReader>(reader: &R, routine: u32, instr: Instr) -> bool
-    requires routine { routine < length (R.code reader.now).routines }
-    requires table { IsTable (R.code reader.now) }
+    requires { HasRoutine (R.code reader.now) routine }
     ensures { result ≡ rule_4_spec (R.code reader.now) routine instr }
 {
     let [a, b, c, d] = words_of(instr);
@@ -55,8 +54,7 @@ pub fn rule_4<R: CodeReader>(reader: &R, routine: u32, instr: Instr) -> bool
 /// places of equal length.
 #[tactic(auto, unfolding(alma_code::specs::Rules::rule_7))]
 pub fn rule_7<R: CodeReader>(reader: &R, routine: u32, instr: Instr) -> bool
-    requires routine { routine < length (R.code reader.now).routines }
-    requires table { IsTable (R.code reader.now) }
+    requires { HasRoutine (R.code reader.now) routine }
     ensures { result ≡ rule_7_spec (R.code reader.now) routine instr }
 {
     match instr {
@@ -133,8 +131,7 @@ pub fn rule_12<R: CodeReader>(reader: &R, routine: u32, instr: Instr) -> bool
 /// and OuterSame agree with the routine that a link leads to.
 #[tactic(auto, unfolding(alma_code::specs::Rules::rule_5))]
 pub fn rule_5<R: CodeReader>(reader: &R, routine: u32, instr: Instr) -> bool
-    requires routine { routine < length (R.code reader.now).routines }
-    requires table { IsTable (R.code reader.now) }
+    requires { HasRoutine (R.code reader.now) routine }
     ensures { result ≡ rule_5_spec (R.code reader.now) routine instr }
 {
     match instr {
@@ -220,8 +217,7 @@ pub fn rule_11<R: CodeReader>(reader: &R, routine: u32, at: u32, instr: Instr) -
 /// The part of rule 10 on the result of a call: where the callee `gives` one, `to` is a number slot
 /// that is not the input position; else `to` is 0.
 pub fn has_place_for_result<R: CodeReader>(reader: &R, routine: u32, gives: bool, to: u32) -> bool
-    requires routine { routine < length (R.code reader.now).routines }
-    requires table { IsTable (R.code reader.now) }
+    requires { HasRoutine (R.code reader.now) routine }
     ensures { result ≡ holds_result_spec (R.code reader.now) routine gives to }
 {
     if gives {
@@ -241,8 +237,7 @@ pub fn rule_10<R: CodeReader>(
     instr: Instr,
     seen: &mut SeenCalls,
 ) -> bool
-    requires routine { routine < length (R.code reader.now).routines }
-    requires table { IsTable (R.code reader.now) }
+    requires routine { HasRoutine (R.code reader.now) routine }
     requires at { at < length (R.code reader.now).instrs }
     requires seen { AreFit (R.code reader.now) seen.old }
     ensures rule { result ≡ rule_10_spec (R.code reader.now) routine at instr }
@@ -282,8 +277,7 @@ pub fn has_room<R: CodeReader>(reader: &R, range: u32, each: u32, all: u32) -> b
 /// length of the whole.
 #[tactic(auto, unfolding(alma_code::specs::Rules::rule_6))]
 pub fn rule_6<R: CodeReader>(reader: &R, routine: u32, instr: Instr) -> bool
-    requires routine { routine < length (R.code reader.now).routines }
-    requires table { IsTable (R.code reader.now) }
+    requires { HasRoutine (R.code reader.now) routine }
     ensures { result ≡ rule_6_spec (R.code reader.now) routine instr }
 {
     match instr {

@@ -3,6 +3,7 @@ ghost use Rattle.std.specs.Prelude.{◌^◌, ◌≡◌, ◌<◌, length};
 ghost use Rattle.alma_code.specs.Plain.{start_at, kinds_at};
 ghost use Rattle.alma_code.specs.Kinds.{numbers_from};
 ghost use Rattle.alma_code.specs.Rules.{IsTable, kind_in, length_in, link_in, is_slot as is_slot_spec, cells_in};
+ghost use Rattle.alma_verify.specs.Routines.{HasRoutine};
 
 use crate::kinds::{is_number, link_routine, place_length};
 use crate::reader::CodeReader;
@@ -10,8 +11,7 @@ use alma_code::SlotKind;
 
 /// The kind of a slot.
 pub fn kind_of<R: CodeReader>(reader: &R, routine: u32, slot: u64) -> Option<SlotKind>
-    requires routine { routine < length (R.code reader.now).routines }
-    requires table { IsTable (R.code reader.now) }
+    requires { HasRoutine (R.code reader.now) routine }
     ensures { result ≡ kind_in (R.code reader.now) routine slot }
 {
     match reader.run_over(routine, slot) {
@@ -30,8 +30,7 @@ pub fn is_slot<R: CodeReader>(reader: &R, routine: u32, slot: u32) -> bool
 
 /// How many cells the places of a slot have; 0 where it is no place slot.
 pub fn length_of<R: CodeReader>(reader: &R, routine: u32, slot: u32) -> u32
-    requires routine { routine < length (R.code reader.now).routines }
-    requires table { IsTable (R.code reader.now) }
+    requires { HasRoutine (R.code reader.now) routine }
     ensures { result ≡ length_in (R.code reader.now) routine slot }
 {
     place_length(kind_of(reader, routine, u64::from(slot)))
@@ -39,8 +38,7 @@ pub fn length_of<R: CodeReader>(reader: &R, routine: u32, slot: u32) -> u32
 
 /// The routine to whose frames the links of a slot lead.
 pub fn link_of<R: CodeReader>(reader: &R, routine: u32, slot: u32) -> u32
-    requires routine { routine < length (R.code reader.now).routines }
-    requires table { IsTable (R.code reader.now) }
+    requires { HasRoutine (R.code reader.now) routine }
     ensures { result ≡ link_in (R.code reader.now) routine slot }
 {
     link_routine(kind_of(reader, routine, u64::from(slot)))
@@ -73,8 +71,7 @@ pub fn start_of<R: CodeReader>(reader: &R, routine: u32) -> u32
 
 /// Whether count slots from first on are number slots, a run at a time.
 pub fn are_numbers<R: CodeReader>(reader: &R, routine: u32, first: u64, count: u32) -> bool
-    requires routine { routine < length (R.code reader.now).routines }
-    requires table { IsTable (R.code reader.now) }
+    requires routine { HasRoutine (R.code reader.now) routine }
     requires first { first < 2 ^ 62 }
     ensures { result ≡ numbers_from count (kinds_at (R.code reader.now) routine) first }
 {
@@ -97,8 +94,7 @@ pub fn are_numbers<R: CodeReader>(reader: &R, routine: u32, first: u64, count: u
 /// Whether count slots from first on are number slots other than the input position.
 #[tactic(auto, using(crate::proofs::SlotStarts::numbers))]
 pub fn are_cells<R: CodeReader>(reader: &R, routine: u32, first: u32, count: u32) -> bool
-    requires routine { routine < length (R.code reader.now).routines }
-    requires table { IsTable (R.code reader.now) }
+    requires { HasRoutine (R.code reader.now) routine }
     ensures { result ≡ cells_in (R.code reader.now) routine first count }
 {
     if count == 0 {

@@ -1,11 +1,12 @@
 // Views whose code is sound.
 ghost use Rattle.std.specs.Prelude.{◌≡◌, None, Some, MatchResult, IfOk, IsOk};
+ghost use Rattle.alma_code.specs.Plain.{head_at};
 ghost use Rattle.alma_code.specs.Rules.{IsSound, code_fault as code_fault_of};
-ghost use Rattle.alma_object.specs.View.{code_of_view};
+ghost use Rattle.alma_object.specs.View.{code_of_view, head_of_view};
 
 use crate::verifier::code_fault;
 use alma_code::VerifyFault;
-use alma_object::ObjectView;
+use alma_object::{ObjectView, RoutineView};
 
 /// A view of an object whose code is sound.
 #[derive(Clone, Copy)]
@@ -46,5 +47,16 @@ impl<'b> Verified<'b> {
     {
         self.view.keeps_object();
         &self.view
+    }
+
+    /// The head of the module body, routine 0.
+    pub fn main_head(&self) -> RoutineView<'b>
+        ensures { head_of_view result ≡ head_at (code_of_view self.now.view) 0 }
+    {
+        self.keeps_sound();
+        match self.view.routine(0) {
+            Some(head) => head,
+            None => unreachable!(),
+        }
     }
 }

@@ -6,6 +6,7 @@ ghost use Rattle.alma_code.specs.Records.{KeepsCounts};
 ghost use Rattle.alma_code.specs.declared.instr.Instr.TheVariants as I;
 ghost use Rattle.alma_verify.specs.Seen.{AreFit};
 ghost use Rattle.alma_code.specs.Rules.{IsTable, instr_fault as instr_fault_spec, instrs_fault as instrs_fault_spec, routine_fault as routine_fault_spec, code_fault as code_fault_spec};
+ghost use Rattle.alma_verify.specs.Routines.{HasRoutine};
 
 use crate::heads::{rule_1, rule_2, rule_3};
 use crate::reader::CodeReader;
@@ -22,8 +23,7 @@ pub fn instr_fault<R: CodeReader>(
     at: u32,
     seen: &mut SeenCalls,
 ) -> Option<VerifyFault>
-    requires routine { routine < length (R.code reader.now).routines }
-    requires table { IsTable (R.code reader.now) }
+    requires routine { HasRoutine (R.code reader.now) routine }
     requires at { at < length (R.code reader.now).instrs }
     requires seen { AreFit (R.code reader.now) seen.old }
     ensures seen { AreFit (R.code reader.now) seen.new }
@@ -71,8 +71,7 @@ pub fn instrs_fault<R: CodeReader>(
     end: u32,
     seen: &mut SeenCalls,
 ) -> Option<VerifyFault>
-    requires routine { routine < length (R.code reader.now).routines }
-    requires table { IsTable (R.code reader.now) }
+    requires routine { HasRoutine (R.code reader.now) routine }
     requires order { start ≤ end }
     requires end { end ≤ length (R.code reader.now).instrs }
     requires seen { AreFit (R.code reader.now) seen.old }
@@ -95,8 +94,7 @@ pub fn routine_fault<R: CodeReader>(
     routine: u32,
     seen: &mut SeenCalls,
 ) -> Option<VerifyFault>
-    requires routine { routine < length (R.code reader.now).routines }
-    requires table { IsTable (R.code reader.now) }
+    requires routine { HasRoutine (R.code reader.now) routine }
     requires few { length (head_at (R.code reader.now) routine).params ≤ record_limit }
     requires order { start_at (R.code reader.now) routine ≤ end_at (R.code reader.now) routine }
     requires end { end_at (R.code reader.now) routine ≤ length (R.code reader.now).instrs }

@@ -3,6 +3,7 @@ ghost use Rattle.std.specs.Prelude.{◌≡◌, ◌<◌, MatchOption, None, lengt
 ghost use Rattle.alma_code.specs.Plain.{routine_at, head_at, kinds_at};
 ghost use Rattle.alma_code.specs.Rules.{IsTable, kind_in, fit_arguments as fit_arguments_spec};
 ghost use Rattle.alma_object.specs.View.{code_of_view, routine_of_view, global_of_view};
+ghost use Rattle.alma_verify.specs.Routines.{HasRoutine};
 ghost use Rattle.alma_verify.specs.Runs.{Covers, no_global};
 
 use crate::arguments::fit_all;
@@ -36,8 +37,7 @@ fn global_of<'b>(view: &ObjectView<'b>, i: u32) -> GlobalView<'b>
 
 // The run over a slot of a routine.
 fn run_over(view: &ObjectView<'_>, routine: u32, slot: u64) -> Option<Run>
-    requires routine { routine < length (code_of_view view.now).routines }
-    requires table { IsTable (code_of_view view.now) }
+    requires { HasRoutine (code_of_view view.now) routine }
     ensures { MatchOption result (kind_in (code_of_view view.now) routine slot ≡ None)
         (λ run. Covers (kinds_at (code_of_view view.now) routine) slot run) }
 {
