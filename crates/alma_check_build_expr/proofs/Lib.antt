@@ -1,3 +1,4 @@
 pub mod Steps
+mod Equations
 mod Numbers
 mod Chains

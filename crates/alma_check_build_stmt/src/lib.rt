@@ -8,9 +8,9 @@ mod statement;
 mod turns;
 
 pub use case::{case_arm, case_stmt};
-pub use list::with_part;
+pub use list::{joined, with_part};
 pub use statement::{
     assigned, bare_return, commit_stmt, condition, either_stmt, forall_stmt, guarded, if_stmt,
-    joined, line, nothing, read, repeat_stmt, returned, test_stmt, text, while_stmt, write,
+    line, nothing, read, repeat_stmt, returned, test_stmt, text, while_stmt, write,
 };
 pub use turns::{for_stmt, loop_of, some_stmt};

@@ -1,5 +1,6 @@
 // Lists of parts. A list is None where one of its parts is Bad.
-ghost use Rattle.std.specs.Prelude.{◌≡◌, ◌∷◌, [], IfOk};
+ghost use Rattle.std.specs.Prelude.{◌≡◌, ◌∷◌, ◌++◌, [], option_map, IfOk};
+ghost use Rattle.alma_rules.specs.Judgement.{both_of};
 ghost use Rattle.alma_check_build_expr.specs.Lists.{items_in, push};
 
 use std::alloc::{AllocError, Global};
@@ -31,4 +32,19 @@ pub fn with_part<T: Drop>(
             }
         },
     }
+}
+
+/// Parts behind others.
+pub fn joined<T: Drop>(
+    first: Option<Vec<T>>,
+    second: Option<Vec<T>>,
+) -> Result<Option<Vec<T>>, AllocError>
+    ensures { IfOk result (λ v. items_in v ≡ option_map (λ p. p.0 ++ p.1)
+        (both_of (items_in first) (items_in second))) }
+{
+    let (Some(mut first), Some(mut second)) = (first, second) else {
+        return Ok(None);
+    };
+    first.append(&mut second)?;
+    Ok(Some(first))
 }

@@ -327,25 +327,3 @@ pub fn line(items: Option<Vec<Stmt>>) -> Result<Option<Vec<Stmt>>, AllocError>
         }
     }
 }
-
-/// Statements behind others.
-pub fn joined(
-    first: Option<Vec<Stmt>>,
-    second: Option<Vec<Stmt>>,
-) -> Result<Option<Vec<Stmt>>, AllocError>
-    ensures { IfOk result (λ v. stmts_in v ≡ option_map parts.joined_stmts
-        (both_of (stmts_in first) (stmts_in second))) }
-{
-    match first {
-        None => Ok(None),
-        Some(first) => match second {
-            None => Ok(None),
-            Some(second) => {
-                let mut first = first;
-                let mut second = second;
-                first.append(&mut second)?;
-                Ok(Some(first))
-            }
-        },
-    }
-}

@@ -47,6 +47,24 @@ pub cases_join : (a b c : ir.CaseArms) → parts.append_cases a (parts.append_ca
 cases_join ir.no_cases b c = refl
 cases_join (ir.more_cases ls s a) b c = ap (ir.more_cases ls s) (cases_join a b c)
 
+-- what a list stands for that was put behind another, where a list stands for what its parts do
+module _ {T R : Type 0} (f : List T → R) (g : R × R → R) where
+  shown : (v : Option (Vec T Global)) → option_map (λ x. f x.items) v ≡ option_map f (items_in v)
+  shown None = refl
+  shown (Some v) = refl
+
+  parted : ((xs ys : List T) → f (xs ++ ys) ≡ g (f xs, f ys)) → (a b : Option (Vec T Global))
+      → option_map f (option_map (λ p. p.0 ++ p.1) (both_of (items_in a) (items_in b)))
+      ≡ option_map g (both_of (option_map (λ x. f x.items) a) (option_map (λ x. f x.items) b))
+  parted h None b = refl
+  parted h (Some a) None = refl
+  parted h (Some a) (Some b) = ap Some (h a.items b.items)
+
+  pub whole_is : ((xs ys : List T) → f (xs ++ ys) ≡ g (f xs, f ys)) → (v a b : Option (Vec T Global))
+      → items_in v ≡ option_map (λ p. p.0 ++ p.1) (both_of (items_in a) (items_in b))
+      → option_map (λ x. f x.items) v ≡ option_map g (both_of (option_map (λ x. f x.items) a) (option_map (λ x. f x.items) b))
+  whole_is h v a b e = shown v ∙ ap (option_map f) e ∙ parted h a b
+
 pub spans_push : (xs : List Span) (x : Span) → spans_view (xs ++ x ∷ []) ≡ spans_view xs ++ span_view x ∷ []
 spans_push [] x = refl
 spans_push (y ∷ xs) x = ap (λ l. span_view y ∷ l) (spans_push xs x)

@@ -91,7 +91,7 @@ pub fn add_cases(
     ensures all_judged { OnOk result (IsOk more) }
 {
     let more = more?;
-    let whole = joined_cases(kept, more)?;
+    let whole = joined(kept, more)?;
     Ok(whole)
 }
 
@@ -137,28 +137,6 @@ fn branch(body: Option<Vec<Stmt>>) -> Option<Branch>
     match body {
         None => None,
         Some(body) => Some(Branch { body }),
-    }
-}
-
-#[tactic(auto, using(crate::proofs::Steps::cases_append, std::proofs::lemmas::Grind::common_steps))]
-fn joined_cases(
-    first: Option<Vec<CaseArm>>,
-    second: Option<Vec<CaseArm>>,
-) -> Result<Option<Vec<CaseArm>>, AllocError>
-    ensures { IfOk result (λ v. cases_in v ≡ option_map nodes.joined_cases (both_of (cases_in first)
-        (cases_in second))) }
-{
-    match first {
-        None => Ok(None),
-        Some(first) => match second {
-            None => Ok(None),
-            Some(second) => {
-                let mut first = first;
-                let mut second = second;
-                first.append(&mut second)?;
-                Ok(Some(first))
-            }
-        },
     }
 }
 

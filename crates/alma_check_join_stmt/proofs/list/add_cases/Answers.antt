@@ -1,4 +1,5 @@
 use Rattle.std.proofs.Common.{sym, ap, ◌∙◌}
+use Rattle.alma_ir.specs.View.{cases_list}
 use Rattle.alma_rules.specs.Parts as parts
 use Rattle.alma_rules.specs.Nodes as nodes
 use Rattle.alma_check_build_expr.specs.Lists.{cases_in}
@@ -16,4 +17,4 @@ returns-in_err-whole-clause-judged c = λ j m rest a. no_memory_on _ _ _ c.from_
 
 pub returns-clause-judged : goal.returns-clause-judged
 returns-clause-judged c = λ j m rest a. steps.cases_added (cases_in c.args.kept) _ j m rest (rw c.in_ok-more.was at a)
-    ∙ ap (λ k. onward_cases k (rest m)) (sym c.in_ok-whole.ensures)
+    ∙ ap (λ k. onward_cases k (rest m)) (sym (steps.whole_is cases_list nodes.joined_cases steps.cases_append _ _ _ c.in_ok-whole.ensures))
