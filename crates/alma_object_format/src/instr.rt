@@ -163,58 +163,29 @@ fn number_instr(bytes: &[u8], at: usize) -> Instr
     requires last { slice_index bytes.now at ≤ 13 }
     ensures { result ≡ instr_there bytes.now at }
 {
-    let a = u32_at(bytes, at + 1);
-    let b = u32_at(bytes, at + 5);
-    let c = u32_at(bytes, at + 9);
+    let to = u32_at(bytes, at + 1);
+    let left = u32_at(bytes, at + 5);
+    let right = u32_at(bytes, at + 9);
     match bytes[at] {
         1 => Instr::Const {
-            to: a,
+            to,
             value: i64_at(bytes, at + 5),
         },
-        2 => Instr::Move { to: a, from: b },
-        3 => Instr::Add {
-            to: a,
-            left: b,
-            right: c,
+        2 => Instr::Move { to, from: left },
+        3 => Instr::Add { to, left, right },
+        4 => Instr::Sub { to, left, right },
+        5 => Instr::Mul { to, left, right },
+        6 => Instr::Div { to, left, right },
+        7 => Instr::Mod { to, left, right },
+        8 => Instr::Neg { to, from: left },
+        9 => Instr::Equal { to, left, right },
+        10 => Instr::Less { to, left, right },
+        11 => Instr::LessEq { to, left, right },
+        12 => Instr::Flip { to, from: left },
+        13 => Instr::InRange {
+            value: to,
+            range: left,
         },
-        4 => Instr::Sub {
-            to: a,
-            left: b,
-            right: c,
-        },
-        5 => Instr::Mul {
-            to: a,
-            left: b,
-            right: c,
-        },
-        6 => Instr::Div {
-            to: a,
-            left: b,
-            right: c,
-        },
-        7 => Instr::Mod {
-            to: a,
-            left: b,
-            right: c,
-        },
-        8 => Instr::Neg { to: a, from: b },
-        9 => Instr::Equal {
-            to: a,
-            left: b,
-            right: c,
-        },
-        10 => Instr::Less {
-            to: a,
-            left: b,
-            right: c,
-        },
-        11 => Instr::LessEq {
-            to: a,
-            left: b,
-            right: c,
-        },
-        12 => Instr::Flip { to: a, from: b },
-        13 => Instr::InRange { value: a, range: b },
         _ => Instr::Fail,
     }
 }
