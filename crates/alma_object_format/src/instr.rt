@@ -2,6 +2,7 @@
 ghost use Rattle.std.specs.Prelude.{◌≡◌, ◌+◌, ◌≤◌, ◌++◌, ◌∷◌, length, slice_index, OnOk};
 ghost use Rattle.alma_object_format.specs.Bytes.{words_bytes};
 ghost use Rattle.alma_object_format.specs.Instrs.{const_bytes, instr_bytes, is_instr as is_instr_there, instr_at as instr_there};
+ghost use Rattle.alma_object_format.specs.Lengths.{instr_len};
 
 use crate::bytes::{i64_at, push_i64, push_words, u32_at};
 use alma_base::NoMemory;
@@ -116,7 +117,7 @@ pub fn push_instr(out: &mut Vec<u8>, instr: Instr) -> Result<(), NoMemory>
 /// Whether the record at an offset is that of an instruction of the version.
 #[tactic(auto, unfolding(crate::specs::Instrs::is_instr))]
 pub fn is_instr(version: u16, bytes: &[u8], at: usize) -> bool
-    requires { at + 17 ≤ length bytes.now }
+    requires { at + instr_len ≤ length bytes.now }
     ensures { result ≡ is_instr_there version bytes.now at }
 {
     let opcode = bytes[at];
@@ -141,7 +142,7 @@ pub fn is_instr(version: u16, bytes: &[u8], at: usize) -> bool
 #[inline(always)]
 #[tactic(auto, unfolding(crate::specs::Instrs::instr_at))]
 pub fn instr_at(bytes: &[u8], at: usize) -> Instr
-    requires { at + 17 ≤ length bytes.now }
+    requires { at + instr_len ≤ length bytes.now }
     ensures { result ≡ instr_there bytes.now at }
 {
     match bytes[at] {
@@ -158,7 +159,7 @@ pub fn instr_at(bytes: &[u8], at: usize) -> Instr
 #[inline(always)]
 #[tactic(auto, unfolding(crate::specs::Instrs::instr_at))]
 fn number_instr(bytes: &[u8], at: usize) -> Instr
-    requires whole { at + 17 ≤ length bytes.now }
+    requires whole { at + instr_len ≤ length bytes.now }
     requires first { 1 ≤ slice_index bytes.now at }
     requires last { slice_index bytes.now at ≤ 13 }
     ensures { result ≡ instr_there bytes.now at }
@@ -194,7 +195,7 @@ fn number_instr(bytes: &[u8], at: usize) -> Instr
 #[inline(always)]
 #[tactic(auto, unfolding(crate::specs::Instrs::instr_at))]
 fn place_instr(bytes: &[u8], at: usize) -> Instr
-    requires whole { at + 17 ≤ length bytes.now }
+    requires whole { at + instr_len ≤ length bytes.now }
     requires first { 14 ≤ slice_index bytes.now at }
     requires last { slice_index bytes.now at ≤ 25 }
     ensures { result ≡ instr_there bytes.now at }
@@ -242,7 +243,7 @@ fn place_instr(bytes: &[u8], at: usize) -> Instr
 #[inline(always)]
 #[tactic(auto, unfolding(crate::specs::Instrs::instr_at))]
 fn control_instr(bytes: &[u8], at: usize) -> Instr
-    requires whole { at + 17 ≤ length bytes.now }
+    requires whole { at + instr_len ≤ length bytes.now }
     requires first { 26 ≤ slice_index bytes.now at }
     requires last { slice_index bytes.now at ≤ 36 }
     ensures { result ≡ instr_there bytes.now at }
@@ -269,7 +270,7 @@ fn control_instr(bytes: &[u8], at: usize) -> Instr
 #[inline(always)]
 #[tactic(auto, unfolding(crate::specs::Instrs::instr_at))]
 fn call_instr(bytes: &[u8], at: usize) -> Instr
-    requires whole { at + 17 ≤ length bytes.now }
+    requires whole { at + instr_len ≤ length bytes.now }
     requires first { 37 ≤ slice_index bytes.now at }
     requires last { slice_index bytes.now at ≤ 48 }
     ensures { result ≡ instr_there bytes.now at }
@@ -308,7 +309,7 @@ fn call_instr(bytes: &[u8], at: usize) -> Instr
 #[inline(always)]
 #[tactic(auto, unfolding(crate::specs::Instrs::instr_at))]
 fn link_instr(bytes: &[u8], at: usize) -> Instr
-    requires whole { at + 17 ≤ length bytes.now }
+    requires whole { at + instr_len ≤ length bytes.now }
     requires first { 49 ≤ slice_index bytes.now at }
     requires last { slice_index bytes.now at ≤ 52 }
     ensures { result ≡ instr_there bytes.now at }
