@@ -32,6 +32,16 @@ is_name_end start end count last = nat_lt start end && (nat_le end count && (not
 abbrev pub can_stand : (first : Bool) → ℕ → Bool
 can_stand first byte = is_name_start byte || (not first && is_digit byte)
 
+-- ---- kinds
+
+-- a param of the kind with a number has one cell: a Value and a Mix
+abbrev pub has_one_cell : (kind : ℕ) → Bool
+has_one_cell kind = nat_eq kind 0 || nat_eq kind 2
+
+-- a run of the kind with a number has a length: that of a Place, and the routine of a Link
+abbrev pub has_length : (kind : ℕ) → Bool
+has_length kind = nat_eq kind 1 || nat_eq kind 3
+
 module _ (bytes : List ℕ) (h : Header) where
   -- the fields of a routine
   abbrev pub routine_field : (field routine : ℕ) → ℕ
@@ -89,14 +99,14 @@ module _ (bytes : List ℕ) (h : Header) where
 
   -- ---- params
 
-  -- 0 Value, 1 Place, 2 Mix, 3 Cells, and from version 2 on 4 Link; Value and Mix have one cell
+  -- 0 Value, 1 Place, 2 Mix, 3 Cells, and from version 2 on 4 Link
   unfoldable pub param_fault : ℕ → Option ObjectFault
   param_fault p =
       let at = params_at h + param_len * p in
       let kind = u32_at bytes at in
       whole bytes (at + param_len)
       (unless (nat_le kind (if nat_eq h.version 2 then 4 else 3)) (fault.BadCount at)
-      (unless (not (nat_eq kind 0 || nat_eq kind 2) || nat_eq (u32_at bytes (at + 4)) 1) (fault.BadCount (at + 4)) None))
+      (unless (not (has_one_cell kind) || nat_eq (u32_at bytes (at + 4)) 1) (fault.BadCount (at + 4)) None))
 
   abbrev pub params_fault : Option ObjectFault
   params_fault = first_fault param_fault 0 h.params
@@ -112,7 +122,7 @@ module _ (bytes : List ℕ) (h : Header) where
       let same = nat_eq (u32_at bytes (at - run_len)) kind && nat_eq (u32_at bytes (at - 8)) (u32_at bytes (at + 4)) in
       whole bytes (at + run_len)
       (unless (nat_le kind (if nat_eq h.version 2 then 3 else 2)) (fault.BadCount at)
-      (unless (nat_eq kind 1 || (nat_eq kind 3 || nat_eq (u32_at bytes (at + 4)) 0)) (fault.BadCount (at + 4))
+      (unless (has_length kind || nat_eq (u32_at bytes (at + 4)) 0) (fault.BadCount (at + 4))
       (unless (first || not same) (fault.BadCount (at + 4))
       (unless (nat_lt (if first then 0 else u32_at bytes (at - 4)) (u32_at bytes (at + 8))) (fault.BadCount (at + 8)) None))))
 
@@ -141,7 +151,7 @@ module _ (bytes : List ℕ) (h : Header) where
   text_fault t =
       let at = texts_at h + text_end_len * t in
       whole bytes (at + text_end_len) (unless (is_end (start_of text_end t) (text_end t) h.text_bytes (nat_eq (t + 1) h.texts))
-          (fault.BadCount at)
+      (fault.BadCount at)
       None)
 
   abbrev pub texts_fault : Option ObjectFault
@@ -179,7 +189,7 @@ module _ (bytes : List ℕ) (h : Header) where
       let at = lines_at h + line_len * l in
       whole bytes (at + line_len)
       (unless ((nat_eq l 0 || nat_lt (u32_at bytes (at - line_len)) (u32_at bytes at)) && nat_lt (u32_at bytes at) h.instrs)
-          (fault.BadCount at)
+      (fault.BadCount at)
       None)
 
   abbrev pub lines_fault : Option ObjectFault

@@ -3,7 +3,7 @@ ghost use Rattle.std.specs.Prelude.{◌≡◌, ◌+◌, ◌-◌, ◌*◌, ◌≤
 ghost use Rattle.alma_object_format.specs.Fault.{first_fault};
 ghost use Rattle.alma_object_format.specs.Header.{IsWithin, routines_at, globals_at, params_at, runs_at, ranges_at, texts_at, name_pool_at, text_pool_at, instrs_at, lines_at, end_at};
 ghost use Rattle.alma_object_format.specs.Lengths.{routine_len, global_len, param_len, run_len, range_len, text_end_len, instr_len, line_len};
-ghost use Rattle.alma_object_format.specs.Walk.{start_of, params_end as params_end_of, runs_end as runs_end_of, code_end as code_end_of, text_end as text_end_of, name_count as name_count_of, name_end as name_end_of, is_end as is_end_of, is_name_end as is_name_end_of, routine_fault as routine_fault_of, routines_fault as routines_fault_of, global_fault as global_fault_of, globals_fault as globals_fault_of, param_fault as param_fault_of, params_fault as params_fault_of, run_fault as run_fault_of, routine_runs_fault as routine_runs_fault_of, runs_fault as runs_fault_of, range_fault as range_fault_of, ranges_fault as ranges_fault_of, text_fault as text_fault_of, texts_fault as texts_fault_of, can_stand as can_stand_of, name_fault as name_fault_of, pools_fault as pools_fault_of, instr_fault as instr_fault_of, instrs_fault as instrs_fault_of, line_fault as line_fault_of, lines_fault as lines_fault_of, sections_fault as sections_fault_of};
+ghost use Rattle.alma_object_format.specs.Walk.{start_of, params_end as params_end_of, runs_end as runs_end_of, code_end as code_end_of, text_end as text_end_of, name_count as name_count_of, name_end as name_end_of, is_end as is_end_of, is_name_end as is_name_end_of, has_one_cell as has_one_cell_of, has_length as has_length_of, routine_fault as routine_fault_of, routines_fault as routines_fault_of, global_fault as global_fault_of, globals_fault as globals_fault_of, param_fault as param_fault_of, params_fault as params_fault_of, run_fault as run_fault_of, routine_runs_fault as routine_runs_fault_of, runs_fault as runs_fault_of, range_fault as range_fault_of, ranges_fault as ranges_fault_of, text_fault as text_fault_of, texts_fault as texts_fault_of, can_stand as can_stand_of, name_fault as name_fault_of, pools_fault as pools_fault_of, instr_fault as instr_fault_of, instrs_fault as instrs_fault_of, line_fault as line_fault_of, lines_fault as lines_fault_of, sections_fault as sections_fault_of};
 
 use crate::bytes::{i64_at, u32_at};
 use crate::fault::ObjectFault;
@@ -277,6 +277,13 @@ fn globals_fault(bytes: &[u8], header: &Header) -> Option<ObjectFault>
 
 // ---- params
 
+// Whether a param of the kind with a number has one cell.
+fn has_one_cell(kind: u32) -> bool
+    ensures { result ≡ has_one_cell_of kind }
+{
+    kind == 0 || kind == 2
+}
+
 // Of the record of a param.
 #[tactic(auto, unfolding(crate::specs::Walk::param_fault))]
 fn param_fault(bytes: &[u8], header: &Header, param: u32) -> Option<ObjectFault>
@@ -293,7 +300,7 @@ fn param_fault(bytes: &[u8], header: &Header, param: u32) -> Option<ObjectFault>
     if kind > last_kind {
         return Some(ObjectFault::BadCount(at));
     }
-    if (kind == 0 || kind == 2) && u32_at(bytes, at + 4) != 1 {
+    if has_one_cell(kind) && u32_at(bytes, at + 4) != 1 {
         return Some(ObjectFault::BadCount(at + 4));
     }
     None
@@ -316,6 +323,13 @@ fn params_fault(bytes: &[u8], header: &Header) -> Option<ObjectFault>
 
 // ---- runs
 
+// Whether a run of the kind with a number has a length.
+fn has_length(kind: u32) -> bool
+    ensures { result ≡ has_length_of kind }
+{
+    kind == 1 || kind == 3
+}
+
 // Of the record of a run.
 #[tactic(auto, unfolding(crate::specs::Walk::run_fault))]
 fn run_fault(bytes: &[u8], header: &Header, first: bool, run: u32) -> Option<ObjectFault>
@@ -333,7 +347,7 @@ fn run_fault(bytes: &[u8], header: &Header, first: bool, run: u32) -> Option<Obj
         return Some(ObjectFault::BadCount(at));
     }
     let len = u32_at(bytes, at + 4);
-    if kind != 1 && kind != 3 && len != 0 {
+    if !has_length(kind) && len != 0 {
         return Some(ObjectFault::BadCount(at + 4));
     }
     if !first && u32_at(bytes, at - RUN_LEN) == kind && u32_at(bytes, at - 8) == len {
