@@ -32,7 +32,8 @@ use Rattle.alma_object_format.specs.Object.{IsObject, end_of, no_global, param_n
 use Rattle.alma_object_format.specs.Object.{text_end_bytes, param_bytes, run_bytes, range_bytes, line_bytes}
 use Rattle.alma_object.specs.View.{no_line}
 use Rattle.alma_object_format.specs.Walk.{start_of, is_end, is_name_end, routine_field, params_end, runs_end, code_end, text_end, name_end}
-use Rattle.alma_object_format.specs.Walk.{name_count as names_count, routine_fault, global_fault, param_fault, run_fault}
+use Rattle.alma_object_format.specs.Walk.{name_count as names_count, has_one_cell, has_length, routine_fault, global_fault, param_fault}
+use Rattle.alma_object_format.specs.Walk.{run_fault}
 use Rattle.alma_object_format.specs.Walk.{routine_runs_fault, range_fault, text_fault, name_fault, pools_fault, instr_fault, line_fault}
 use Rattle.alma_object_format.specs.Walk.{end_fault, sections_fault, object_fault, can_stand}
 use Rattle.alma_object.proofs.Accepted.{header_for, header_is, header_clean, or_clean}
@@ -420,7 +421,7 @@ module _ (code : PlainCode) (bytes : List ℕ) (object : IsObject code bytes) (f
   by_version false n a b high low = le_test n b (low refl)
 
   cells_good : (k : ParamKind) (n : ℕ) → has_cells k n ≡ true
-      → (not (nat_eq (param_number k) 0 || nat_eq (param_number k) 2) || nat_eq n 1) ≡ true
+      → (not (has_one_cell (param_number k)) || nat_eq n 1) ≡ true
   cells_good param.Value n e = e
   cells_good param.Place n e = refl
   cells_good param.Mix n e = e
@@ -459,10 +460,10 @@ module _ (code : PlainCode) (bytes : List ℕ) (object : IsObject code bytes) (f
       (ap (λ n. nat_le n (if nat_eq h.version 2 then 4 else 3)) s.kind
       ∙ by_version (nat_eq code.version 2) (param_number x.kind) 4 3 (param_any x.kind)
       (λ two. param_first x.kind (all_at (λ (p : CodeParam). is_first_param p.kind) params_all (params_first two) p no_param lt)))
-      (unless_true (not (nat_eq (u32_at bytes at) 0 || nat_eq (u32_at bytes at) 2) || nat_eq (u32_at bytes (at + 4)) 1)
+      (unless_true (not (has_one_cell (u32_at bytes at)) || nat_eq (u32_at bytes (at + 4)) 1)
       (fault.BadCount (at + 4)) None
-      (ap (λ n. not (nat_eq n 0 || nat_eq n 2) || nat_eq (u32_at bytes (at + 4)) 1) s.kind
-      ∙ ap (λ n. not (nat_eq (param_number x.kind) 0 || nat_eq (param_number x.kind) 2) || nat_eq n 1) s.cells
+      (ap (λ n. not (has_one_cell n) || nat_eq (u32_at bytes (at + 4)) 1) s.kind
+      ∙ ap (λ n. not (has_one_cell (param_number x.kind)) || nat_eq n 1) s.cells
       ∙ cells_good x.kind x.cells (all_at (λ (p : CodeParam). has_cells p.kind p.cells) params_all params_have p no_param lt)) refl))
 
   -- ---- runs
@@ -486,7 +487,7 @@ module _ (code : PlainCode) (bytes : List ℕ) (object : IsObject code bytes) (f
     runs_length,
   )
 
-  size_good : (k : SlotKind) → (nat_eq (slot_number k) 1 || (nat_eq (slot_number k) 3 || nat_eq (slot_size k) 0)) ≡ true
+  size_good : (k : SlotKind) → (has_length (slot_number k) || nat_eq (slot_size k) 0) ≡ true
   size_good slot.Number = refl
   size_good (slot.Place n) = refl
   size_good slot.Mark = refl
@@ -554,10 +555,10 @@ module _ (code : PlainCode) (bytes : List ℕ) (object : IsObject code bytes) (f
       (ap (λ n. nat_le n (if nat_eq h.version 2 then 3 else 2)) s.kind
       ∙ by_version (nat_eq code.version 2) (slot_number kind.kind) 3 2 (slot_any kind.kind)
       (λ two. slot_first kind.kind (all_at (λ (x : Run). is_first_kind x.kind) runs_all (runs_first two) k no_run lt)))
-      (unless_true (nat_eq (u32_at bytes at) 1 || (nat_eq (u32_at bytes at) 3 || nat_eq (u32_at bytes (at + 4)) 0))
+      (unless_true (has_length (u32_at bytes at) || nat_eq (u32_at bytes (at + 4)) 0)
       (fault.BadCount (at + 4)) _
-      (ap (λ n. nat_eq n 1 || (nat_eq n 3 || nat_eq (u32_at bytes (at + 4)) 0)) s.kind
-      ∙ ap (λ n. nat_eq (slot_number kind.kind) 1 || (nat_eq (slot_number kind.kind) 3 || nat_eq n 0)) s.size ∙ size_good kind.kind)
+      (ap (λ n. has_length n || nat_eq (u32_at bytes (at + 4)) 0) s.kind
+      ∙ ap (λ n. has_length (slot_number kind.kind) || nat_eq n 0) s.size ∙ size_good kind.kind)
       (unless_true (first || not (nat_eq (u32_at bytes (at - 12)) (u32_at bytes at)
       && nat_eq (u32_at bytes (at - 8)) (u32_at bytes (at + 4)))) (fault.BadCount (at + 4)) _ differs
       (unless_true (nat_lt (if first then 0 else u32_at bytes (at - 4)) (u32_at bytes (at + 8))) (fault.BadCount (at + 8)) None

@@ -21,7 +21,8 @@ use Rattle.alma_object_format.specs.Fault.{whole as whole_fault}
 use Rattle.alma_object_format.specs.Header.{IsWithin, params_at, runs_at, ranges_at, name_pool_at, text_pool_at, instrs_at, lines_at}
 use Rattle.alma_object_format.specs.Header.{end_at}
 use Rattle.alma_object_format.specs.Instrs.{instr_at, instrs_with, is_instr, last_opcode}
-use Rattle.alma_object_format.specs.Walk.{start_of, can_stand, name_count, name_end, params_end, runs_end, param_fault, range_fault}
+use Rattle.alma_object_format.specs.Walk.{start_of, can_stand, has_one_cell, has_length, name_count, name_end, params_end, runs_end}
+use Rattle.alma_object_format.specs.Walk.{param_fault, range_fault}
 use Rattle.alma_object_format.specs.Walk.{name_fault, instr_fault, line_fault, sections_fault}
 use Rattle.alma_object_format.specs.Reading.{items, param_kind, slot_kind, param_in, run_in, range_in, line_in, name_in, routine_in}
 use Rattle.alma_object_format.specs.Reading.{global_in, code_in}
@@ -270,7 +271,7 @@ first_form (suc (suc (suc
 
 -- ---- params and runs
 
-cells_kept : (n size : ℕ) → n ≤ 4 → (not (nat_eq n 0 || nat_eq n 2) || nat_eq size 1) ≡ true → has_cells (param_kind n) size ≡ true
+cells_kept : (n size : ℕ) → n ≤ 4 → (not (has_one_cell n) || nat_eq size 1) ≡ true → has_cells (param_kind n) size ≡ true
 cells_kept zero size le e = e
 cells_kept (suc zero) size le e = refl
 cells_kept (suc (suc zero)) size le e = e
@@ -279,8 +280,8 @@ cells_kept (suc (suc (suc (suc zero)))) size le e = refl
 cells_kept (suc (suc (suc (suc (suc n))))) size le e = absurd (omega arith)
 
 -- two kinds are one only where their numbers and sizes are
-same_numbers : (m s n t : ℕ) → m ≤ 3 → n ≤ 3 → (nat_eq m 1 || (nat_eq m 3 || nat_eq s 0)) ≡ true
-    → (nat_eq n 1 || (nat_eq n 3 || nat_eq t 0)) ≡ true →
+same_numbers : (m s n t : ℕ) → m ≤ 3 → n ≤ 3 → (has_length m || nat_eq s 0) ≡ true
+    → (has_length n || nat_eq t 0) ≡ true →
     (nat_eq m n && nat_eq s t) ≡ false → same_kind (slot_kind m s) (slot_kind n t) ≡ false
 same_numbers zero s zero t lm ln es et e =
     (let a = eq_fact s 0 es in let b = eq_fact t 0 et in let c = eq_test s t (omega arith) in absurd cc)
@@ -351,7 +352,7 @@ either_version v (inr e) = inr (eq_fact v 2 e)
 -- a param without fault
 record ParamKept (bytes : List ℕ) (h : Header) (at : ℕ) : Type 0 where
   kind : nat_le (u32_at bytes at) (if nat_eq h.version 2 then 4 else 3) ≡ true
-  size : (not (nat_eq (u32_at bytes at) 0 || nat_eq (u32_at bytes at) 2) || nat_eq (u32_at bytes (at + 4)) 1) ≡ true
+  size : (not (has_one_cell (u32_at bytes at)) || nat_eq (u32_at bytes (at + 4)) 1) ≡ true
 
 param_kept : (bytes : List ℕ) (h : Header) (p : ℕ) → param_fault bytes h p ≡ None → ParamKept bytes h (params_at h + 8 * p)
 unfolding param_fault
@@ -359,7 +360,7 @@ param_kept bytes h p e =
     let at = params_at h + 8 * p in
     let a = whole_none bytes (at + 8) _ e in
     let b = unless_none (nat_le (u32_at bytes at) (if nat_eq h.version 2 then 4 else 3)) _ _ a.1 in
-    let c = unless_none (not (nat_eq (u32_at bytes at) 0 || nat_eq (u32_at bytes at) 2) || nat_eq (u32_at bytes (at + 4)) 1) _ _ b.1 in
+    let c = unless_none (not (has_one_cell (u32_at bytes at)) || nat_eq (u32_at bytes (at + 4)) 1) _ _ b.1 in
     record { kind = b.0; size = c.0 }
 
 -- a line without fault

@@ -10,7 +10,7 @@ use Rattle.std.proofs.lemmas.Bool.Decides.{nat_tests}
 use Rattle.alma_object_format.specs.declared.header.Header.{Header}
 use Rattle.alma_object_format.specs.Bytes.{i64_bytes, words_bytes, u32_at, i64_at}
 use Rattle.alma_object_format.specs.Header.{params_at, runs_at}
-use Rattle.alma_object_format.specs.Walk.{start_of, param_fault, run_fault}
+use Rattle.alma_object_format.specs.Walk.{start_of, has_length, param_fault, run_fault}
 use Rattle.std.proofs.lemmas.List.FromFn.{sum_by-map-range_with_len_more, take-map-range_with_len}
 use Rattle.alma_object_format.specs.Object.{end_of, param_number, slot_number, slot_size, param_bytes, run_bytes, range_bytes, line_bytes}
 use Rattle.alma_object_format.specs.Reading.{items, param_kind, slot_kind, param_in, run_in, range_in, line_in}
@@ -37,7 +37,7 @@ slot_again (suc (suc (suc (suc n)))) size le = absurd (omega arith)
 eq_fact : (m n : ℕ) → nat_eq m n ≡ true → m ≡ n
 eq_fact m n e = grind (arith, nat_tests)
 
-size_again : (n size : ℕ) → n ≤ 3 → (nat_eq n 1 || (nat_eq n 3 || nat_eq size 0)) ≡ true → slot_size (slot_kind n size) ≡ size
+size_again : (n size : ℕ) → n ≤ 3 → (has_length n || nat_eq size 0) ≡ true → slot_size (slot_kind n size) ≡ size
 size_again zero zero le e = refl
 size_again zero (suc size) le e = let f = eq_fact (suc size) 0 e in absurd (omega arith)
 size_again (suc zero) size le e = refl

@@ -12,7 +12,7 @@ use Rattle.alma_code.specs.Rules.{IsTable, last_end}
 use Rattle.alma_object_format.specs.declared.header.Header.{Header}
 use Rattle.alma_object_format.specs.Bytes.{u32_at}
 use Rattle.alma_object_format.specs.Header.{IsWithin, runs_at, end_at}
-use Rattle.alma_object_format.specs.Walk.{start_of, runs_end, run_fault, sections_fault}
+use Rattle.alma_object_format.specs.Walk.{start_of, has_length, runs_end, run_fault, sections_fault}
 use Rattle.alma_object_format.specs.Reading.{routine_in, global_in, text_in, run_in, code_in}
 use Rattle.alma_object.proofs.Items.{length_items, item_at}
 use Rattle.alma_object_format.proofs.Kept.{unless_none, whole_none, lt_fact, routine_seen, sections_kept, last_code}
@@ -39,7 +39,7 @@ ne_test m n lt = grind (arith, nat_tests)
 -- a run without fault
 pub record RunKept (bytes : List ℕ) (h : Header) (first : Bool) (at : ℕ) : Type 0 where
   pub kind : nat_le (u32_at bytes at) (if nat_eq h.version 2 then 3 else 2) ≡ true
-  pub size : (nat_eq (u32_at bytes at) 1 || (nat_eq (u32_at bytes at) 3 || nat_eq (u32_at bytes (at + 4)) 0)) ≡ true
+  pub size : (has_length (u32_at bytes at) || nat_eq (u32_at bytes (at + 4)) 0) ≡ true
   pub differs : (first || not (nat_eq (u32_at bytes (at - 12)) (u32_at bytes at) && nat_eq (u32_at bytes (at - 8)) (u32_at bytes (at + 4))))
       ≡ true
   pub above : nat_lt (if first then 0 else u32_at bytes (at - 4)) (u32_at bytes (at + 8)) ≡ true
@@ -51,7 +51,7 @@ run_kept bytes h first r e =
     let at = runs_at h + 12 * r in
     let a = whole_none bytes (at + 12) _ e in
     let b = unless_none (nat_le (u32_at bytes at) (if nat_eq h.version 2 then 3 else 2)) _ _ a.1 in
-    let c = unless_none (nat_eq (u32_at bytes at) 1 || (nat_eq (u32_at bytes at) 3 || nat_eq (u32_at bytes (at + 4)) 0)) _ _ b.1 in
+    let c = unless_none (has_length (u32_at bytes at) || nat_eq (u32_at bytes (at + 4)) 0) _ _ b.1 in
     let d = unless_none (first || not
     (nat_eq (u32_at bytes (at - 12)) (u32_at bytes at) && nat_eq (u32_at bytes (at - 8)) (u32_at bytes (at + 4)))) _ _ c.1 in
     let f = unless_none (nat_lt (if first then 0 else u32_at bytes (at - 4)) (u32_at bytes (at + 8))) _ _ d.1 in

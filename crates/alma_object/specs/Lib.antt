@@ -2,6 +2,7 @@ pub use Rattle.alma_object_format.specs.Bytes
 pub use Rattle.alma_object_format.specs.Fault
 pub use Rattle.alma_object_format.specs.Header
 pub use Rattle.alma_object_format.specs.Instrs
+pub use Rattle.alma_object_format.specs.Lengths
 pub use Rattle.alma_object_format.specs.Object
 pub use Rattle.alma_object_format.specs.Reading
 pub use Rattle.alma_object_format.specs.Walk

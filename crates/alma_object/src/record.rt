@@ -1,5 +1,6 @@
 // The record of an instruction.
 ghost use Rattle.std.specs.Prelude.{◌+◌, ◌≤◌, length};
+ghost use Rattle.alma_object_format.specs.Lengths.{instr_len};
 
 mod words;
 
@@ -8,5 +9,5 @@ mod words;
 pub struct InstrRecord<'b> {
     bytes: &'b [u8],
     at: usize,
-    ghost whole: { at + 17 ≤ length bytes.now },
+    ghost whole: { at + instr_len ≤ length bytes.now },
 }

@@ -1,8 +1,9 @@
 // A view of one routine of an object.
 ghost use Rattle.std.specs.Prelude.{◌≡◌, ◌+◌, ◌*◌, ◌≤◌, length};
+ghost use Rattle.alma_object_format.specs.Lengths.{param_len, run_len};
 
 use alma_code::{CodeParam, Head, Run};
-use alma_object_format::{param_in, run_in};
+use alma_object_format::{PARAM_LEN, RUN_LEN, param_in, run_in};
 
 /// A routine of an object. It lends the bytes of the object.
 #[derive(Clone, Copy)]
@@ -18,8 +19,8 @@ pub struct RoutineView<'b> {
     pub(crate) result: bool,
     pub(crate) code_start: u32,
     pub(crate) code_end: u32,
-    ghost params: { params_at + 8 * param_count ≤ length bytes.now },
-    ghost runs: { runs_at + 12 * run_count ≤ length bytes.now },
+    ghost params: { params_at + param_len * param_count ≤ length bytes.now },
+    ghost runs: { runs_at + run_len * run_count ≤ length bytes.now },
 }
 
 impl<'b> RoutineView<'b> {
@@ -65,7 +66,7 @@ impl<'b> Head for RoutineView<'b> {
 
     #[tactic(auto, using(crate::proofs::Items::item_steps))]
     fn param(&self, i: u32) -> CodeParam {
-        param_in(self.bytes, self.params_at + 8 * i as usize)
+        param_in(self.bytes, self.params_at + PARAM_LEN * i as usize)
     }
 
     #[tactic(auto, using(crate::proofs::Items::item_steps))]
@@ -75,7 +76,7 @@ impl<'b> Head for RoutineView<'b> {
 
     #[tactic(auto, using(crate::proofs::Items::item_steps))]
     fn run(&self, i: u32) -> Run {
-        run_in(self.bytes, self.runs_at + 12 * i as usize)
+        run_in(self.bytes, self.runs_at + RUN_LEN * i as usize)
     }
 
     fn has_result(&self) -> bool {

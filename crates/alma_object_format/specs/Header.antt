@@ -7,6 +7,8 @@ use Rattle.alma_object_format.specs.declared.fault.ObjectFault.TheVariants as fa
 use Rattle.alma_object_format.specs.declared.header.Header.{Header}
 use Rattle.alma_object_format.specs.Bytes.{u16_at, u32_at}
 use Rattle.alma_object_format.specs.Fault.{unless, whole, or_else}
+use Rattle.alma_object_format.specs.Lengths.{header_len, first_header_len, routine_len, global_len, param_len, run_len, range_len}
+use Rattle.alma_object_format.specs.Lengths.{text_end_len, instr_len, line_len}
 
 -- the bytes that each object begins with
 abbrev pub magic : List ℕ
@@ -86,26 +88,26 @@ pub record IsWithin (h : Header) : Type 0 where
 
 -- the routines begin behind the last count
 abbrev pub routines_at : Header → ℕ
-routines_at h = if nat_eq h.version 2 then 50 else 46
+routines_at h = if nat_eq h.version 2 then header_len else first_header_len
 
 abbrev pub globals_at : Header → ℕ
-globals_at h = routines_at h + 28 * h.routines
+globals_at h = routines_at h + routine_len * h.routines
 
 abbrev pub params_at : Header → ℕ
-params_at h = globals_at h + 12 * h.globals
+params_at h = globals_at h + global_len * h.globals
 
 abbrev pub runs_at : Header → ℕ
-runs_at h = params_at h + 8 * h.params
+runs_at h = params_at h + param_len * h.params
 
 abbrev pub ranges_at : Header → ℕ
-ranges_at h = runs_at h + 12 * h.runs
+ranges_at h = runs_at h + run_len * h.runs
 
 abbrev pub texts_at : Header → ℕ
-texts_at h = ranges_at h + 16 * h.ranges
+texts_at h = ranges_at h + range_len * h.ranges
 
 -- the two pools
 abbrev pub name_pool_at : Header → ℕ
-name_pool_at h = texts_at h + 4 * h.texts
+name_pool_at h = texts_at h + text_end_len * h.texts
 
 abbrev pub text_pool_at : Header → ℕ
 text_pool_at h = name_pool_at h + h.name_bytes
@@ -114,8 +116,8 @@ abbrev pub instrs_at : Header → ℕ
 instrs_at h = text_pool_at h + h.text_bytes
 
 abbrev pub lines_at : Header → ℕ
-lines_at h = instrs_at h + 17 * h.instrs
+lines_at h = instrs_at h + instr_len * h.instrs
 
 -- behind the last section
 abbrev pub end_at : Header → ℕ
-end_at h = lines_at h + 8 * h.lines
+end_at h = lines_at h + line_len * h.lines

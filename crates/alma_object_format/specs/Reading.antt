@@ -14,6 +14,7 @@ use Rattle.alma_object_format.specs.declared.header.Header.{Header}
 use Rattle.alma_object_format.specs.Bytes.{u32_at, i64_at}
 use Rattle.alma_object_format.specs.Instrs.{instr_at}
 use Rattle.alma_object_format.specs.Header.{globals_at, params_at, runs_at, ranges_at, name_pool_at, text_pool_at, instrs_at, lines_at}
+use Rattle.alma_object_format.specs.Lengths.{global_len, param_len, run_len, range_len, instr_len, line_len}
 use Rattle.alma_object_format.specs.Walk.{start_of, routine_field, params_end, runs_end, code_end, text_end, name_end}
 
 -- the items with the numbers below n
@@ -44,10 +45,10 @@ module _ (bytes : List ℕ) where
 
   -- n records from an offset on
   abbrev pub params_in : (at n : ℕ) → List CodeParam
-  params_in at n = items (λ k. param_in (at + 8 * k)) n
+  params_in at n = items (λ k. param_in (at + param_len * k)) n
 
   abbrev pub runs_in : (at n : ℕ) → List Run
-  runs_in at n = items (λ k. run_in (at + 12 * k)) n
+  runs_in at n = items (λ k. run_in (at + run_len * k)) n
 
 -- ---- the whole code
 
@@ -65,8 +66,9 @@ module _ (bytes : List ℕ) (h : Header) where
     head = record {
       slots = routine_field bytes h 16 r;
       declared = routine_field bytes h 20 r;
-      params = params_in bytes (params_at h + 8 * start_of (params_end bytes h) r) (params_end bytes h r - start_of (params_end bytes h) r);
-      runs = runs_in bytes (runs_at h + 12 * start_of (runs_end bytes h) r) (runs_end bytes h r - start_of (runs_end bytes h) r);
+      params = params_in bytes (params_at h + param_len * start_of (params_end bytes h) r)
+          (params_end bytes h r - start_of (params_end bytes h) r);
+      runs = runs_in bytes (runs_at h + run_len * start_of (runs_end bytes h) r) (runs_end bytes h r - start_of (runs_end bytes h) r);
       has_result = nat_eq (routine_field bytes h 24 r) 1;
     };
     code_end = code_end bytes h r;
@@ -75,8 +77,8 @@ module _ (bytes : List ℕ) (h : Header) where
   unfoldable pub global_in : ℕ → PlainGlobal
   global_in g = record {
     name = name_in (h.routines + g);
-    slot = u32_at bytes (globals_at h + 12 * g + 4);
-    cells = u32_at bytes (globals_at h + 12 * g + 8);
+    slot = u32_at bytes (globals_at h + global_len * g + 4);
+    cells = u32_at bytes (globals_at h + global_len * g + 8);
   }
 
   -- the code of the sections
@@ -85,8 +87,8 @@ module _ (bytes : List ℕ) (h : Header) where
     version = h.version;
     routines = items routine_in h.routines;
     globals = items global_in h.globals;
-    ranges = items (λ k. range_in bytes (ranges_at h + 16 * k)) h.ranges;
+    ranges = items (λ k. range_in bytes (ranges_at h + range_len * k)) h.ranges;
     texts = items text_in h.texts;
-    instrs = items (λ k. instr_at bytes (instrs_at h + 17 * k)) h.instrs;
-    lines = items (λ k. line_in bytes (lines_at h + 8 * k)) h.lines;
+    instrs = items (λ k. instr_at bytes (instrs_at h + instr_len * k)) h.instrs;
+    lines = items (λ k. line_in bytes (lines_at h + line_len * k)) h.lines;
   }

@@ -11,6 +11,7 @@ use Rattle.alma_object_format.specs.Instrs.{is_instr}
 use Rattle.alma_object_format.specs.Fault.{unless, whole, or_else, first_fault}
 use Rattle.alma_object_format.specs.Header.{header_of, header_fault, routines_at, globals_at, params_at, runs_at, ranges_at, texts_at}
 use Rattle.alma_object_format.specs.Header.{name_pool_at, text_pool_at, instrs_at, lines_at, end_at}
+use Rattle.alma_object_format.specs.Lengths.{routine_len, global_len, param_len, run_len, range_len, text_end_len, instr_len, line_len}
 
 -- ---- ends
 
@@ -31,10 +32,20 @@ is_name_end start end count last = nat_lt start end && (nat_le end count && (not
 abbrev pub can_stand : (first : Bool) → ℕ → Bool
 can_stand first byte = is_name_start byte || (not first && is_digit byte)
 
+-- ---- kinds
+
+-- a param of the kind with a number has one cell: a Value and a Mix
+abbrev pub has_one_cell : (kind : ℕ) → Bool
+has_one_cell kind = nat_eq kind 0 || nat_eq kind 2
+
+-- a run of the kind with a number has a length: that of a Place, and the routine of a Link
+abbrev pub has_length : (kind : ℕ) → Bool
+has_length kind = nat_eq kind 1 || nat_eq kind 3
+
 module _ (bytes : List ℕ) (h : Header) where
   -- the fields of a routine
   abbrev pub routine_field : (field routine : ℕ) → ℕ
-  routine_field field routine = u32_at bytes (routines_at h + 28 * routine + field)
+  routine_field field routine = u32_at bytes (routines_at h + routine_len * routine + field)
 
   unfoldable pub params_end : ℕ → ℕ
   params_end routine = routine_field 4 routine
@@ -46,24 +57,24 @@ module _ (bytes : List ℕ) (h : Header) where
   code_end routine = routine_field 12 routine
 
   unfoldable pub text_end : ℕ → ℕ
-  text_end text = u32_at bytes (texts_at h + 4 * text)
+  text_end text = u32_at bytes (texts_at h + text_end_len * text)
 
   -- names run on through routines and then globals
   abbrev pub name_count : ℕ
   name_count = h.routines + h.globals
 
   unfoldable pub name_end : ℕ → ℕ
-  name_end name = if nat_lt name h.routines then u32_at bytes (routines_at h + 28 * name) else u32_at bytes
-      (globals_at h + 12 * (name - h.routines))
+  name_end name = if nat_lt name h.routines then u32_at bytes (routines_at h + routine_len * name) else u32_at bytes
+      (globals_at h + global_len * (name - h.routines))
 
   -- ---- routines
 
   -- of the record of a routine, field by field; its result is 0 or 1
   unfoldable pub routine_fault : ℕ → Option ObjectFault
   routine_fault r =
-      let at = routines_at h + 28 * r in
+      let at = routines_at h + routine_len * r in
       let last = nat_eq (r + 1) h.routines in
-      whole bytes (at + 28)
+      whole bytes (at + routine_len)
       (unless (is_name_end (start_of name_end r) (name_end r) h.name_bytes (nat_eq (r + 1) name_count)) (fault.BadName at)
       (unless (is_end (start_of params_end r) (params_end r) h.params last) (fault.BadCount (at + 4))
       (unless (is_end (start_of runs_end r) (runs_end r) h.runs last) (fault.BadCount (at + 8))
@@ -78,9 +89,9 @@ module _ (bytes : List ℕ) (h : Header) where
   -- of the record of a global
   unfoldable pub global_fault : ℕ → Option ObjectFault
   global_fault g =
-      let at = globals_at h + 12 * g in
+      let at = globals_at h + global_len * g in
       let name = h.routines + g in
-      whole bytes (at + 12)
+      whole bytes (at + global_len)
       (unless (is_name_end (start_of name_end name) (name_end name) h.name_bytes (nat_eq (name + 1) name_count)) (fault.BadName at) None)
 
   abbrev pub globals_fault : Option ObjectFault
@@ -88,14 +99,14 @@ module _ (bytes : List ℕ) (h : Header) where
 
   -- ---- params
 
-  -- 0 Value, 1 Place, 2 Mix, 3 Cells, and from version 2 on 4 Link; Value and Mix have one cell
+  -- 0 Value, 1 Place, 2 Mix, 3 Cells, and from version 2 on 4 Link
   unfoldable pub param_fault : ℕ → Option ObjectFault
   param_fault p =
-      let at = params_at h + 8 * p in
+      let at = params_at h + param_len * p in
       let kind = u32_at bytes at in
-      whole bytes (at + 8)
+      whole bytes (at + param_len)
       (unless (nat_le kind (if nat_eq h.version 2 then 4 else 3)) (fault.BadCount at)
-      (unless (not (nat_eq kind 0 || nat_eq kind 2) || nat_eq (u32_at bytes (at + 4)) 1) (fault.BadCount (at + 4)) None))
+      (unless (not (has_one_cell kind) || nat_eq (u32_at bytes (at + 4)) 1) (fault.BadCount (at + 4)) None))
 
   abbrev pub params_fault : Option ObjectFault
   params_fault = first_fault param_fault 0 h.params
@@ -106,12 +117,12 @@ module _ (bytes : List ℕ) (h : Header) where
   -- a run that is not the first of its routine differs from the one before in kind or length, and its end is above that end
   unfoldable pub run_fault : (first : Bool) → ℕ → Option ObjectFault
   run_fault first r =
-      let at = runs_at h + 12 * r in
+      let at = runs_at h + run_len * r in
       let kind = u32_at bytes at in
-      let same = nat_eq (u32_at bytes (at - 12)) kind && nat_eq (u32_at bytes (at - 8)) (u32_at bytes (at + 4)) in
-      whole bytes (at + 12)
+      let same = nat_eq (u32_at bytes (at - run_len)) kind && nat_eq (u32_at bytes (at - 8)) (u32_at bytes (at + 4)) in
+      whole bytes (at + run_len)
       (unless (nat_le kind (if nat_eq h.version 2 then 3 else 2)) (fault.BadCount at)
-      (unless (nat_eq kind 1 || (nat_eq kind 3 || nat_eq (u32_at bytes (at + 4)) 0)) (fault.BadCount (at + 4))
+      (unless (has_length kind || nat_eq (u32_at bytes (at + 4)) 0) (fault.BadCount (at + 4))
       (unless (first || not same) (fault.BadCount (at + 4))
       (unless (nat_lt (if first then 0 else u32_at bytes (at - 4)) (u32_at bytes (at + 8))) (fault.BadCount (at + 8)) None))))
 
@@ -128,8 +139,8 @@ module _ (bytes : List ℕ) (h : Header) where
   -- low is at most high
   unfoldable pub range_fault : ℕ → Option ObjectFault
   range_fault r =
-      let at = ranges_at h + 16 * r in
-      whole bytes (at + 16) (unless (int_le (i64_at bytes at) (i64_at bytes (at + 8))) (fault.BadCount (at + 8)) None)
+      let at = ranges_at h + range_len * r in
+      whole bytes (at + range_len) (unless (int_le (i64_at bytes at) (i64_at bytes (at + 8))) (fault.BadCount (at + 8)) None)
 
   abbrev pub ranges_fault : Option ObjectFault
   ranges_fault = first_fault range_fault 0 h.ranges
@@ -138,8 +149,9 @@ module _ (bytes : List ℕ) (h : Header) where
 
   unfoldable pub text_fault : ℕ → Option ObjectFault
   text_fault t =
-      let at = texts_at h + 4 * t in
-      whole bytes (at + 4) (unless (is_end (start_of text_end t) (text_end t) h.text_bytes (nat_eq (t + 1) h.texts)) (fault.BadCount at)
+      let at = texts_at h + text_end_len * t in
+      whole bytes (at + text_end_len) (unless (is_end (start_of text_end t) (text_end t) h.text_bytes (nat_eq (t + 1) h.texts))
+      (fault.BadCount at)
       None)
 
   abbrev pub texts_fault : Option ObjectFault
@@ -163,8 +175,8 @@ module _ (bytes : List ℕ) (h : Header) where
 
   unfoldable pub instr_fault : ℕ → Option ObjectFault
   instr_fault i =
-      let at = instrs_at h + 17 * i in
-      whole bytes (at + 17) (unless (is_instr h.version bytes at) (fault.BadOpcode at) None)
+      let at = instrs_at h + instr_len * i in
+      whole bytes (at + instr_len) (unless (is_instr h.version bytes at) (fault.BadOpcode at) None)
 
   abbrev pub instrs_fault : Option ObjectFault
   instrs_fault = first_fault instr_fault 0 h.instrs
@@ -174,9 +186,10 @@ module _ (bytes : List ℕ) (h : Header) where
   -- an address is above that of the line before and below the code count
   unfoldable pub line_fault : ℕ → Option ObjectFault
   line_fault l =
-      let at = lines_at h + 8 * l in
-      whole bytes (at + 8)
-      (unless ((nat_eq l 0 || nat_lt (u32_at bytes (at - 8)) (u32_at bytes at)) && nat_lt (u32_at bytes at) h.instrs) (fault.BadCount at)
+      let at = lines_at h + line_len * l in
+      whole bytes (at + line_len)
+      (unless ((nat_eq l 0 || nat_lt (u32_at bytes (at - line_len)) (u32_at bytes at)) && nat_lt (u32_at bytes at) h.instrs)
+      (fault.BadCount at)
       None)
 
   abbrev pub lines_fault : Option ObjectFault

@@ -6,6 +6,10 @@ ghost use Rattle.alma_object_format.specs.Header.{IsWithin, header_of, magic_fau
 
 use crate::bytes::{u16_at, u32_at};
 use crate::fault::ObjectFault;
+use crate::lengths::{
+    FIRST_HEADER_LEN, GLOBAL_LEN, HEADER_LEN, INSTR_LEN, LINE_LEN, PARAM_LEN, RANGE_LEN,
+    ROUTINE_LEN, RUN_LEN, TEXT_END_LEN,
+};
 use alma_base::{INSTR_LIMIT, POOL_LIMIT, RECORD_LIMIT, ROUTINE_LIMIT, SLOT_LIMIT};
 
 /// The version, and how many records or bytes each section has.
@@ -30,7 +34,11 @@ impl Header {
         ensures within { result < 2 ^ 6 }
         ensures offset { result ≡ routines_at self.now }
     {
-        if self.version == 2 { 50 } else { 46 }
+        if self.version == 2 {
+            HEADER_LEN
+        } else {
+            FIRST_HEADER_LEN
+        }
     }
 
     /// The offset of the records of globals, of 12 bytes each; those of routines, of 28 bytes, end
@@ -39,7 +47,7 @@ impl Header {
         ensures within { result < 2 ^ 38 }
         ensures offset { result ≡ globals_at self.now }
     {
-        self.routines_at() + 28 * self.routines as usize
+        self.routines_at() + ROUTINE_LEN * self.routines as usize
     }
 
     /// The offset of the records of params, of 8 bytes each: a kind and a number of cells.
@@ -47,7 +55,7 @@ impl Header {
         ensures within { result < 2 ^ 39 }
         ensures offset { result ≡ params_at self.now }
     {
-        self.globals_at() + 12 * self.globals as usize
+        self.globals_at() + GLOBAL_LEN * self.globals as usize
     }
 
     /// The offset of the records of runs of slots, of 12 bytes each.
@@ -55,7 +63,7 @@ impl Header {
         ensures within { result < 2 ^ 40 }
         ensures offset { result ≡ runs_at self.now }
     {
-        self.params_at() + 8 * self.params as usize
+        self.params_at() + PARAM_LEN * self.params as usize
     }
 
     /// The offset of the records of ranges, of 16 bytes each: low and high.
@@ -63,7 +71,7 @@ impl Header {
         ensures within { result < 2 ^ 41 }
         ensures offset { result ≡ ranges_at self.now }
     {
-        self.runs_at() + 12 * self.runs as usize
+        self.runs_at() + RUN_LEN * self.runs as usize
     }
 
     /// The offset of the records of texts, of 4 bytes each; a record has the end of its text alone.
@@ -71,7 +79,7 @@ impl Header {
         ensures within { result < 2 ^ 42 }
         ensures offset { result ≡ texts_at self.now }
     {
-        self.ranges_at() + 16 * self.ranges as usize
+        self.ranges_at() + RANGE_LEN * self.ranges as usize
     }
 
     /// The offset of the bytes of all names, those of routines before those of globals.
@@ -79,7 +87,7 @@ impl Header {
         ensures within { result < 2 ^ 43 }
         ensures offset { result ≡ name_pool_at self.now }
     {
-        self.texts_at() + 4 * self.texts as usize
+        self.texts_at() + TEXT_END_LEN * self.texts as usize
     }
 
     /// The offset of the bytes of all texts, one behind another.
@@ -103,7 +111,7 @@ impl Header {
         ensures within { result < 2 ^ 46 }
         ensures offset { result ≡ lines_at self.now }
     {
-        self.instrs_at() + 17 * self.instrs as usize
+        self.instrs_at() + INSTR_LEN * self.instrs as usize
     }
 
     /// The offset behind the last section; an object that has bytes from there on is refused as
@@ -112,7 +120,7 @@ impl Header {
         ensures within { result < 2 ^ 47 }
         ensures offset { result ≡ end_at self.now }
     {
-        self.lines_at() + 8 * self.lines as usize
+        self.lines_at() + LINE_LEN * self.lines as usize
     }
 }
 

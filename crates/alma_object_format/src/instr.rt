@@ -2,6 +2,7 @@
 ghost use Rattle.std.specs.Prelude.{◌≡◌, ◌+◌, ◌≤◌, ◌++◌, ◌∷◌, length, slice_index, OnOk};
 ghost use Rattle.alma_object_format.specs.Bytes.{words_bytes};
 ghost use Rattle.alma_object_format.specs.Instrs.{const_bytes, instr_bytes, is_instr as is_instr_there, instr_at as instr_there};
+ghost use Rattle.alma_object_format.specs.Lengths.{instr_len};
 
 use crate::bytes::{i64_at, push_i64, push_words, u32_at};
 use alma_base::NoMemory;
@@ -116,7 +117,7 @@ pub fn push_instr(out: &mut Vec<u8>, instr: Instr) -> Result<(), NoMemory>
 /// Whether the record at an offset is that of an instruction of the version.
 #[tactic(auto, unfolding(crate::specs::Instrs::is_instr))]
 pub fn is_instr(version: u16, bytes: &[u8], at: usize) -> bool
-    requires { at + 17 ≤ length bytes.now }
+    requires { at + instr_len ≤ length bytes.now }
     ensures { result ≡ is_instr_there version bytes.now at }
 {
     let opcode = bytes[at];
@@ -141,7 +142,7 @@ pub fn is_instr(version: u16, bytes: &[u8], at: usize) -> bool
 #[inline(always)]
 #[tactic(auto, unfolding(crate::specs::Instrs::instr_at))]
 pub fn instr_at(bytes: &[u8], at: usize) -> Instr
-    requires { at + 17 ≤ length bytes.now }
+    requires { at + instr_len ≤ length bytes.now }
     ensures { result ≡ instr_there bytes.now at }
 {
     match bytes[at] {
@@ -158,63 +159,34 @@ pub fn instr_at(bytes: &[u8], at: usize) -> Instr
 #[inline(always)]
 #[tactic(auto, unfolding(crate::specs::Instrs::instr_at))]
 fn number_instr(bytes: &[u8], at: usize) -> Instr
-    requires whole { at + 17 ≤ length bytes.now }
+    requires whole { at + instr_len ≤ length bytes.now }
     requires first { 1 ≤ slice_index bytes.now at }
     requires last { slice_index bytes.now at ≤ 13 }
     ensures { result ≡ instr_there bytes.now at }
 {
-    let a = u32_at(bytes, at + 1);
-    let b = u32_at(bytes, at + 5);
-    let c = u32_at(bytes, at + 9);
+    let to = u32_at(bytes, at + 1);
+    let left = u32_at(bytes, at + 5);
+    let right = u32_at(bytes, at + 9);
     match bytes[at] {
         1 => Instr::Const {
-            to: a,
+            to,
             value: i64_at(bytes, at + 5),
         },
-        2 => Instr::Move { to: a, from: b },
-        3 => Instr::Add {
-            to: a,
-            left: b,
-            right: c,
+        2 => Instr::Move { to, from: left },
+        3 => Instr::Add { to, left, right },
+        4 => Instr::Sub { to, left, right },
+        5 => Instr::Mul { to, left, right },
+        6 => Instr::Div { to, left, right },
+        7 => Instr::Mod { to, left, right },
+        8 => Instr::Neg { to, from: left },
+        9 => Instr::Equal { to, left, right },
+        10 => Instr::Less { to, left, right },
+        11 => Instr::LessEq { to, left, right },
+        12 => Instr::Flip { to, from: left },
+        13 => Instr::InRange {
+            value: to,
+            range: left,
         },
-        4 => Instr::Sub {
-            to: a,
-            left: b,
-            right: c,
-        },
-        5 => Instr::Mul {
-            to: a,
-            left: b,
-            right: c,
-        },
-        6 => Instr::Div {
-            to: a,
-            left: b,
-            right: c,
-        },
-        7 => Instr::Mod {
-            to: a,
-            left: b,
-            right: c,
-        },
-        8 => Instr::Neg { to: a, from: b },
-        9 => Instr::Equal {
-            to: a,
-            left: b,
-            right: c,
-        },
-        10 => Instr::Less {
-            to: a,
-            left: b,
-            right: c,
-        },
-        11 => Instr::LessEq {
-            to: a,
-            left: b,
-            right: c,
-        },
-        12 => Instr::Flip { to: a, from: b },
-        13 => Instr::InRange { value: a, range: b },
         _ => Instr::Fail,
     }
 }
@@ -223,7 +195,7 @@ fn number_instr(bytes: &[u8], at: usize) -> Instr
 #[inline(always)]
 #[tactic(auto, unfolding(crate::specs::Instrs::instr_at))]
 fn place_instr(bytes: &[u8], at: usize) -> Instr
-    requires whole { at + 17 ≤ length bytes.now }
+    requires whole { at + instr_len ≤ length bytes.now }
     requires first { 14 ≤ slice_index bytes.now at }
     requires last { slice_index bytes.now at ≤ 25 }
     ensures { result ≡ instr_there bytes.now at }
@@ -271,7 +243,7 @@ fn place_instr(bytes: &[u8], at: usize) -> Instr
 #[inline(always)]
 #[tactic(auto, unfolding(crate::specs::Instrs::instr_at))]
 fn control_instr(bytes: &[u8], at: usize) -> Instr
-    requires whole { at + 17 ≤ length bytes.now }
+    requires whole { at + instr_len ≤ length bytes.now }
     requires first { 26 ≤ slice_index bytes.now at }
     requires last { slice_index bytes.now at ≤ 36 }
     ensures { result ≡ instr_there bytes.now at }
@@ -298,7 +270,7 @@ fn control_instr(bytes: &[u8], at: usize) -> Instr
 #[inline(always)]
 #[tactic(auto, unfolding(crate::specs::Instrs::instr_at))]
 fn call_instr(bytes: &[u8], at: usize) -> Instr
-    requires whole { at + 17 ≤ length bytes.now }
+    requires whole { at + instr_len ≤ length bytes.now }
     requires first { 37 ≤ slice_index bytes.now at }
     requires last { slice_index bytes.now at ≤ 48 }
     ensures { result ≡ instr_there bytes.now at }
@@ -337,7 +309,7 @@ fn call_instr(bytes: &[u8], at: usize) -> Instr
 #[inline(always)]
 #[tactic(auto, unfolding(crate::specs::Instrs::instr_at))]
 fn link_instr(bytes: &[u8], at: usize) -> Instr
-    requires whole { at + 17 ≤ length bytes.now }
+    requires whole { at + instr_len ≤ length bytes.now }
     requires first { 49 ≤ slice_index bytes.now at }
     requires last { slice_index bytes.now at ≤ 52 }
     ensures { result ≡ instr_there bytes.now at }

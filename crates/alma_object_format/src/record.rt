@@ -1,5 +1,6 @@
 // Records of params, runs, ranges and lines in bytes.
 ghost use Rattle.std.specs.Prelude.{◌≡◌, ◌+◌, ◌≤◌, length};
+ghost use Rattle.alma_object_format.specs.Lengths.{param_len, run_len, range_len, line_len};
 ghost use Rattle.alma_object_format.specs.Reading.{param_kind as param_kind_of, slot_kind as slot_kind_of, param_in as param_there, run_in as run_there, range_in as range_there, line_in as line_there};
 
 use crate::bytes::{i64_at, u32_at};
@@ -34,7 +35,7 @@ fn slot_kind(number: u32, size: u32) -> SlotKind
 /// The param whose record stands at an offset.
 #[tactic(auto, unfolding(crate::specs::Reading::param_in))]
 pub fn param_in(bytes: &[u8], at: usize) -> CodeParam
-    requires { at + 8 ≤ length bytes.now }
+    requires { at + param_len ≤ length bytes.now }
     ensures { result ≡ param_there bytes.now at }
 {
     CodeParam {
@@ -46,7 +47,7 @@ pub fn param_in(bytes: &[u8], at: usize) -> CodeParam
 /// The run whose record stands at an offset.
 #[tactic(auto, unfolding(crate::specs::Reading::run_in))]
 pub fn run_in(bytes: &[u8], at: usize) -> Run
-    requires { at + 12 ≤ length bytes.now }
+    requires { at + run_len ≤ length bytes.now }
     ensures { result ≡ run_there bytes.now at }
 {
     Run {
@@ -58,7 +59,7 @@ pub fn run_in(bytes: &[u8], at: usize) -> Run
 /// The range whose record stands at an offset.
 #[tactic(auto, unfolding(crate::specs::Reading::range_in))]
 pub fn range_in(bytes: &[u8], at: usize) -> Range
-    requires { at + 16 ≤ length bytes.now }
+    requires { at + range_len ≤ length bytes.now }
     ensures { result ≡ range_there bytes.now at }
 {
     Range {
@@ -70,7 +71,7 @@ pub fn range_in(bytes: &[u8], at: usize) -> Range
 /// The line whose record stands at an offset.
 #[tactic(auto, unfolding(crate::specs::Reading::line_in))]
 pub fn line_in(bytes: &[u8], at: usize) -> Line
-    requires { at + 8 ≤ length bytes.now }
+    requires { at + line_len ≤ length bytes.now }
     ensures { result ≡ line_there bytes.now at }
 {
     Line {

@@ -2,66 +2,79 @@
 ghost use Rattle.std.specs.Prelude.{◌≡◌, ◌+◌, ◌-◌, ◌*◌, ◌≤◌, ◌<◌, ℕ, length, IfNone};
 ghost use Rattle.alma_object_format.specs.Fault.{first_fault};
 ghost use Rattle.alma_object_format.specs.Header.{IsWithin, routines_at, globals_at, params_at, runs_at, ranges_at, texts_at, name_pool_at, text_pool_at, instrs_at, lines_at, end_at};
-ghost use Rattle.alma_object_format.specs.Walk.{start_of, params_end as params_end_of, runs_end as runs_end_of, code_end as code_end_of, text_end as text_end_of, name_count as name_count_of, name_end as name_end_of, is_end as is_end_of, is_name_end as is_name_end_of, routine_fault as routine_fault_of, routines_fault as routines_fault_of, global_fault as global_fault_of, globals_fault as globals_fault_of, param_fault as param_fault_of, params_fault as params_fault_of, run_fault as run_fault_of, routine_runs_fault as routine_runs_fault_of, runs_fault as runs_fault_of, range_fault as range_fault_of, ranges_fault as ranges_fault_of, text_fault as text_fault_of, texts_fault as texts_fault_of, can_stand as can_stand_of, name_fault as name_fault_of, pools_fault as pools_fault_of, instr_fault as instr_fault_of, instrs_fault as instrs_fault_of, line_fault as line_fault_of, lines_fault as lines_fault_of, sections_fault as sections_fault_of};
+ghost use Rattle.alma_object_format.specs.Lengths.{routine_len, global_len, param_len, run_len, range_len, text_end_len, instr_len, line_len};
+ghost use Rattle.alma_object_format.specs.Walk.{start_of, params_end as params_end_of, runs_end as runs_end_of, code_end as code_end_of, text_end as text_end_of, name_count as name_count_of, name_end as name_end_of, is_end as is_end_of, is_name_end as is_name_end_of, has_one_cell as has_one_cell_of, has_length as has_length_of, routine_fault as routine_fault_of, routines_fault as routines_fault_of, global_fault as global_fault_of, globals_fault as globals_fault_of, param_fault as param_fault_of, params_fault as params_fault_of, run_fault as run_fault_of, routine_runs_fault as routine_runs_fault_of, runs_fault as runs_fault_of, range_fault as range_fault_of, ranges_fault as ranges_fault_of, text_fault as text_fault_of, texts_fault as texts_fault_of, can_stand as can_stand_of, name_fault as name_fault_of, pools_fault as pools_fault_of, instr_fault as instr_fault_of, instrs_fault as instrs_fault_of, line_fault as line_fault_of, lines_fault as lines_fault_of, sections_fault as sections_fault_of};
 
 use crate::bytes::{i64_at, u32_at};
 use crate::fault::ObjectFault;
 use crate::header::Header;
 use crate::instr::is_instr;
+use crate::lengths::{
+    GLOBAL_LEN, INSTR_LEN, LINE_LEN, PARAM_LEN, RANGE_LEN, ROUTINE_LEN, RUN_LEN, TEXT_END_LEN,
+};
 
 // ---- ends
 
 /// Where the params of a routine end.
 #[tactic(auto, unfolding(crate::specs::Walk::params_end))]
 pub fn params_end(bytes: &[u8], header: &Header, routine: u32) -> u32
-    requires { routines_at header.now + 28 * routine + 28 ≤ length bytes.now }
+    requires { routines_at header.now + routine_len * routine + routine_len ≤ length bytes.now }
     ensures { result ≡ params_end_of bytes.now header.now routine }
 {
-    u32_at(bytes, header.routines_at() + 28 * routine as usize + 4)
+    u32_at(
+        bytes,
+        header.routines_at() + ROUTINE_LEN * routine as usize + 4,
+    )
 }
 
 /// Where the runs of a routine end.
 #[tactic(auto, unfolding(crate::specs::Walk::runs_end))]
 pub fn runs_end(bytes: &[u8], header: &Header, routine: u32) -> u32
-    requires { routines_at header.now + 28 * routine + 28 ≤ length bytes.now }
+    requires { routines_at header.now + routine_len * routine + routine_len ≤ length bytes.now }
     ensures { result ≡ runs_end_of bytes.now header.now routine }
 {
-    u32_at(bytes, header.routines_at() + 28 * routine as usize + 8)
+    u32_at(
+        bytes,
+        header.routines_at() + ROUTINE_LEN * routine as usize + 8,
+    )
 }
 
 /// Where the code of a routine ends.
 #[tactic(auto, unfolding(crate::specs::Walk::code_end))]
 pub fn code_end(bytes: &[u8], header: &Header, routine: u32) -> u32
-    requires { routines_at header.now + 28 * routine + 28 ≤ length bytes.now }
+    requires { routines_at header.now + routine_len * routine + routine_len ≤ length bytes.now }
     ensures { result ≡ code_end_of bytes.now header.now routine }
 {
-    u32_at(bytes, header.routines_at() + 28 * routine as usize + 12)
+    u32_at(
+        bytes,
+        header.routines_at() + ROUTINE_LEN * routine as usize + 12,
+    )
 }
 
 /// Where a text ends.
 #[tactic(auto, unfolding(crate::specs::Walk::text_end))]
 pub fn text_end(bytes: &[u8], header: &Header, text: u32) -> u32
-    requires { texts_at header.now + 4 * text + 4 ≤ length bytes.now }
+    requires { texts_at header.now + text_end_len * text + text_end_len ≤ length bytes.now }
     ensures { result ≡ text_end_of bytes.now header.now text }
 {
-    u32_at(bytes, header.texts_at() + 4 * text as usize)
+    u32_at(bytes, header.texts_at() + TEXT_END_LEN * text as usize)
 }
 
 /// Where a name ends. The names of the routines come first, then those of the globals.
 #[tactic(auto, unfolding(crate::specs::Walk::name_end))]
 pub fn name_end(bytes: &[u8], header: &Header, name: u32) -> u32
-    requires routine { name < header.now.routines → routines_at header.now + 28 * name + 28
-        ≤ length bytes.now }
-    requires global { header.now.routines ≤ name → globals_at header.now + 12 *
-        (name - header.now.routines) + 12 ≤ length bytes.now }
+    requires routine { name < header.now.routines → routines_at header.now + routine_len * name
+        + routine_len ≤ length bytes.now }
+    requires global { header.now.routines ≤ name → globals_at header.now + global_len *
+        (name - header.now.routines) + global_len ≤ length bytes.now }
     ensures { result ≡ name_end_of bytes.now header.now name }
 {
     if name < header.routines {
-        u32_at(bytes, header.routines_at() + 28 * name as usize)
+        u32_at(bytes, header.routines_at() + ROUTINE_LEN * name as usize)
     } else {
         u32_at(
             bytes,
-            header.globals_at() + 12 * (name - header.routines) as usize,
+            header.globals_at() + GLOBAL_LEN * (name - header.routines) as usize,
         )
     }
 }
@@ -69,7 +82,7 @@ pub fn name_end(bytes: &[u8], header: &Header, name: u32) -> u32
 /// Where the params of a routine begin.
 #[tactic(auto, using(crate::proofs::Starts::starts))]
 pub fn params_start(bytes: &[u8], header: &Header, routine: u32) -> u32
-    requires { routines_at header.now + 28 * routine ≤ length bytes.now }
+    requires { routines_at header.now + routine_len * routine ≤ length bytes.now }
     ensures { result ≡ start_of (params_end_of bytes.now header.now) routine }
 {
     if routine == 0 {
@@ -82,7 +95,7 @@ pub fn params_start(bytes: &[u8], header: &Header, routine: u32) -> u32
 /// Where the runs of a routine begin.
 #[tactic(auto, using(crate::proofs::Starts::starts))]
 pub fn runs_start(bytes: &[u8], header: &Header, routine: u32) -> u32
-    requires { routines_at header.now + 28 * routine ≤ length bytes.now }
+    requires { routines_at header.now + routine_len * routine ≤ length bytes.now }
     ensures { result ≡ start_of (runs_end_of bytes.now header.now) routine }
 {
     if routine == 0 {
@@ -95,7 +108,7 @@ pub fn runs_start(bytes: &[u8], header: &Header, routine: u32) -> u32
 /// Where the code of a routine begins.
 #[tactic(auto, using(crate::proofs::Starts::starts))]
 pub fn code_start(bytes: &[u8], header: &Header, routine: u32) -> u32
-    requires { routines_at header.now + 28 * routine ≤ length bytes.now }
+    requires { routines_at header.now + routine_len * routine ≤ length bytes.now }
     ensures { result ≡ start_of (code_end_of bytes.now header.now) routine }
 {
     if routine == 0 {
@@ -108,7 +121,7 @@ pub fn code_start(bytes: &[u8], header: &Header, routine: u32) -> u32
 /// Where a text begins.
 #[tactic(auto, using(crate::proofs::Starts::starts))]
 pub fn text_start(bytes: &[u8], header: &Header, text: u32) -> u32
-    requires { texts_at header.now + 4 * text ≤ length bytes.now }
+    requires { texts_at header.now + text_end_len * text ≤ length bytes.now }
     ensures { result ≡ start_of (text_end_of bytes.now header.now) text }
 {
     if text == 0 {
@@ -121,9 +134,9 @@ pub fn text_start(bytes: &[u8], header: &Header, text: u32) -> u32
 /// Where a name begins.
 #[tactic(auto, using(crate::proofs::Starts::starts))]
 pub fn name_start(bytes: &[u8], header: &Header, name: u32) -> u32
-    requires routine { name ≤ header.now.routines → routines_at header.now + 28 * name
+    requires routine { name ≤ header.now.routines → routines_at header.now + routine_len * name
         ≤ length bytes.now }
-    requires global { header.now.routines ≤ name → globals_at header.now + 12 *
+    requires global { header.now.routines ≤ name → globals_at header.now + global_len *
         (name - header.now.routines) ≤ length bytes.now }
     ensures { result ≡ start_of (name_end_of bytes.now header.now) name }
 {
@@ -152,12 +165,13 @@ fn is_name_end(start: u32, end: u32, count: u32, last: bool) -> bool
 #[tactic(auto, unfolding(crate::specs::Walk::routine_fault))]
 fn routine_fault(bytes: &[u8], header: &Header, routine: u32) -> Option<ObjectFault>
     requires routine { routine < header.now.routines }
-    requires before { routines_at header.now + 28 * routine ≤ length bytes.now }
+    requires before { routines_at header.now + routine_len * routine ≤ length bytes.now }
     ensures fault { result ≡ routine_fault_of bytes.now header.now routine }
-    ensures whole { IfNone result (routines_at header.now + 28 * routine + 28 ≤ length bytes.now) }
+    ensures whole { IfNone result (routines_at header.now + routine_len * routine + routine_len
+        ≤ length bytes.now) }
 {
-    let at = header.routines_at() + 28 * routine as usize;
-    if bytes.len() < at + 28 {
+    let at = header.routines_at() + ROUTINE_LEN * routine as usize;
+    if bytes.len() < at + ROUTINE_LEN {
         return Some(ObjectFault::Cut(bytes.len()));
     }
     let last = routine + 1 == header.routines;
@@ -223,12 +237,13 @@ fn routines_fault(bytes: &[u8], header: &Header) -> Option<ObjectFault>
 fn global_fault(bytes: &[u8], header: &Header, global: u32) -> Option<ObjectFault>
     requires within { IsWithin header.now }
     requires global { global < header.now.globals }
-    requires before { globals_at header.now + 12 * global ≤ length bytes.now }
+    requires before { globals_at header.now + global_len * global ≤ length bytes.now }
     ensures fault { result ≡ global_fault_of bytes.now header.now global }
-    ensures whole { IfNone result (globals_at header.now + 12 * global + 12 ≤ length bytes.now) }
+    ensures whole { IfNone result (globals_at header.now + global_len * global + global_len
+        ≤ length bytes.now) }
 {
-    let at = header.globals_at() + 12 * global as usize;
-    if bytes.len() < at + 12 {
+    let at = header.globals_at() + GLOBAL_LEN * global as usize;
+    if bytes.len() < at + GLOBAL_LEN {
         return Some(ObjectFault::Cut(bytes.len()));
     }
     let name = header.routines + global;
@@ -262,14 +277,22 @@ fn globals_fault(bytes: &[u8], header: &Header) -> Option<ObjectFault>
 
 // ---- params
 
+// Whether a param of the kind with a number has one cell.
+fn has_one_cell(kind: u32) -> bool
+    ensures { result ≡ has_one_cell_of kind }
+{
+    kind == 0 || kind == 2
+}
+
 // Of the record of a param.
 #[tactic(auto, unfolding(crate::specs::Walk::param_fault))]
 fn param_fault(bytes: &[u8], header: &Header, param: u32) -> Option<ObjectFault>
     ensures fault { result ≡ param_fault_of bytes.now header.now param }
-    ensures whole { IfNone result (params_at header.now + 8 * param + 8 ≤ length bytes.now) }
+    ensures whole { IfNone result (params_at header.now + param_len * param + param_len
+        ≤ length bytes.now) }
 {
-    let at = header.params_at() + 8 * param as usize;
-    if bytes.len() < at + 8 {
+    let at = header.params_at() + PARAM_LEN * param as usize;
+    if bytes.len() < at + PARAM_LEN {
         return Some(ObjectFault::Cut(bytes.len()));
     }
     let kind = u32_at(bytes, at);
@@ -277,7 +300,7 @@ fn param_fault(bytes: &[u8], header: &Header, param: u32) -> Option<ObjectFault>
     if kind > last_kind {
         return Some(ObjectFault::BadCount(at));
     }
-    if (kind == 0 || kind == 2) && u32_at(bytes, at + 4) != 1 {
+    if has_one_cell(kind) && u32_at(bytes, at + 4) != 1 {
         return Some(ObjectFault::BadCount(at + 4));
     }
     None
@@ -300,14 +323,22 @@ fn params_fault(bytes: &[u8], header: &Header) -> Option<ObjectFault>
 
 // ---- runs
 
+// Whether a run of the kind with a number has a length.
+fn has_length(kind: u32) -> bool
+    ensures { result ≡ has_length_of kind }
+{
+    kind == 1 || kind == 3
+}
+
 // Of the record of a run.
 #[tactic(auto, unfolding(crate::specs::Walk::run_fault))]
 fn run_fault(bytes: &[u8], header: &Header, first: bool, run: u32) -> Option<ObjectFault>
     ensures fault { result ≡ run_fault_of bytes.now header.now first run }
-    ensures whole { IfNone result (runs_at header.now + 12 * run + 12 ≤ length bytes.now) }
+    ensures whole { IfNone result (runs_at header.now + run_len * run + run_len
+        ≤ length bytes.now) }
 {
-    let at = header.runs_at() + 12 * run as usize;
-    if bytes.len() < at + 12 {
+    let at = header.runs_at() + RUN_LEN * run as usize;
+    if bytes.len() < at + RUN_LEN {
         return Some(ObjectFault::Cut(bytes.len()));
     }
     let kind = u32_at(bytes, at);
@@ -316,10 +347,10 @@ fn run_fault(bytes: &[u8], header: &Header, first: bool, run: u32) -> Option<Obj
         return Some(ObjectFault::BadCount(at));
     }
     let len = u32_at(bytes, at + 4);
-    if kind != 1 && kind != 3 && len != 0 {
+    if !has_length(kind) && len != 0 {
         return Some(ObjectFault::BadCount(at + 4));
     }
-    if !first && u32_at(bytes, at - 12) == kind && u32_at(bytes, at - 8) == len {
+    if !first && u32_at(bytes, at - RUN_LEN) == kind && u32_at(bytes, at - 8) == len {
         return Some(ObjectFault::BadCount(at + 4));
     }
     let begin = if first { 0 } else { u32_at(bytes, at - 4) };
@@ -332,11 +363,12 @@ fn run_fault(bytes: &[u8], header: &Header, first: bool, run: u32) -> Option<Obj
 // Of the runs of a routine.
 #[tactic(auto, unfolding(crate::specs::Walk::routine_runs_fault), using(crate::proofs::Faults::fault_steps))]
 fn routine_runs_fault(bytes: &[u8], header: &Header, routine: u32) -> Option<ObjectFault>
-    requires table { routines_at header.now + 28 * routine + 28 ≤ length bytes.now }
-    requires before { runs_at header.now + 12 * start_of (runs_end_of bytes.now header.now) routine
+    requires table { routines_at header.now + routine_len * routine + routine_len
         ≤ length bytes.now }
+    requires before { runs_at header.now + run_len * start_of
+        (runs_end_of bytes.now header.now) routine ≤ length bytes.now }
     ensures fault { result ≡ routine_runs_fault_of bytes.now header.now routine }
-    ensures whole { IfNone result (runs_at header.now + 12 * runs_end_of bytes.now header.now
+    ensures whole { IfNone result (runs_at header.now + run_len * runs_end_of bytes.now header.now
         routine ≤ length bytes.now) }
 {
     let start = runs_start(bytes, header, routine);
@@ -355,7 +387,7 @@ fn runs_fault(bytes: &[u8], header: &Header) -> Option<ObjectFault>
     requires table { globals_at header.now ≤ length bytes.now }
     requires before { runs_at header.now ≤ length bytes.now }
     ensures fault { result ≡ runs_fault_of bytes.now header.now }
-    ensures whole { IfNone result (runs_at header.now + 12 * start_of
+    ensures whole { IfNone result (runs_at header.now + run_len * start_of
         (runs_end_of bytes.now header.now) header.now.routines ≤ length bytes.now) }
 {
     for routine in 0..header.routines {
@@ -372,10 +404,11 @@ fn runs_fault(bytes: &[u8], header: &Header) -> Option<ObjectFault>
 #[tactic(auto, unfolding(crate::specs::Walk::range_fault))]
 fn range_fault(bytes: &[u8], header: &Header, range: u32) -> Option<ObjectFault>
     ensures fault { result ≡ range_fault_of bytes.now header.now range }
-    ensures whole { IfNone result (ranges_at header.now + 16 * range + 16 ≤ length bytes.now) }
+    ensures whole { IfNone result (ranges_at header.now + range_len * range + range_len
+        ≤ length bytes.now) }
 {
-    let at = header.ranges_at() + 16 * range as usize;
-    if bytes.len() < at + 16 {
+    let at = header.ranges_at() + RANGE_LEN * range as usize;
+    if bytes.len() < at + RANGE_LEN {
         return Some(ObjectFault::Cut(bytes.len()));
     }
     if i64_at(bytes, at) > i64_at(bytes, at + 8) {
@@ -405,12 +438,13 @@ fn ranges_fault(bytes: &[u8], header: &Header) -> Option<ObjectFault>
 #[tactic(auto, unfolding(crate::specs::Walk::text_fault))]
 fn text_fault(bytes: &[u8], header: &Header, text: u32) -> Option<ObjectFault>
     requires text { text < header.now.texts }
-    requires before { texts_at header.now + 4 * text ≤ length bytes.now }
+    requires before { texts_at header.now + text_end_len * text ≤ length bytes.now }
     ensures fault { result ≡ text_fault_of bytes.now header.now text }
-    ensures whole { IfNone result (texts_at header.now + 4 * text + 4 ≤ length bytes.now) }
+    ensures whole { IfNone result (texts_at header.now + text_end_len * text + text_end_len
+        ≤ length bytes.now) }
 {
-    let at = header.texts_at() + 4 * text as usize;
-    if bytes.len() < at + 4 {
+    let at = header.texts_at() + TEXT_END_LEN * text as usize;
+    if bytes.len() < at + TEXT_END_LEN {
         return Some(ObjectFault::Cut(bytes.len()));
     }
     let last = text + 1 == header.texts;
@@ -451,10 +485,10 @@ fn can_stand(first: bool, byte: u8) -> bool
 // Of the bytes of a name.
 #[tactic(auto, unfolding(crate::specs::Walk::name_fault), using(crate::proofs::Faults::fault_steps))]
 fn name_fault(bytes: &[u8], header: &Header, name: u32) -> Option<ObjectFault>
-    requires routine { name < header.now.routines → routines_at header.now + 28 * name + 28
-        ≤ length bytes.now }
-    requires global { header.now.routines ≤ name → globals_at header.now + 12 *
-        (name - header.now.routines) + 12 ≤ length bytes.now }
+    requires routine { name < header.now.routines → routines_at header.now + routine_len * name
+        + routine_len ≤ length bytes.now }
+    requires global { header.now.routines ≤ name → globals_at header.now + global_len *
+        (name - header.now.routines) + global_len ≤ length bytes.now }
     requires end { name_end_of bytes.now header.now name ≤ header.now.name_bytes }
     requires pool { text_pool_at header.now ≤ length bytes.now }
     ensures { result ≡ name_fault_of bytes.now header.now name }
@@ -513,10 +547,11 @@ fn pools_fault(bytes: &[u8], header: &Header) -> Option<ObjectFault>
 #[tactic(auto, unfolding(crate::specs::Walk::instr_fault))]
 fn instr_fault(bytes: &[u8], header: &Header, instr: u32) -> Option<ObjectFault>
     ensures fault { result ≡ instr_fault_of bytes.now header.now instr }
-    ensures whole { IfNone result (instrs_at header.now + 17 * instr + 17 ≤ length bytes.now) }
+    ensures whole { IfNone result (instrs_at header.now + instr_len * instr + instr_len
+        ≤ length bytes.now) }
 {
-    let at = header.instrs_at() + 17 * instr as usize;
-    if bytes.len() < at + 17 {
+    let at = header.instrs_at() + INSTR_LEN * instr as usize;
+    if bytes.len() < at + INSTR_LEN {
         return Some(ObjectFault::Cut(bytes.len()));
     }
     if !is_instr(header.version, bytes, at) {
@@ -546,14 +581,15 @@ fn instrs_fault(bytes: &[u8], header: &Header) -> Option<ObjectFault>
 #[tactic(auto, unfolding(crate::specs::Walk::line_fault))]
 fn line_fault(bytes: &[u8], header: &Header, line: u32) -> Option<ObjectFault>
     ensures fault { result ≡ line_fault_of bytes.now header.now line }
-    ensures whole { IfNone result (lines_at header.now + 8 * line + 8 ≤ length bytes.now) }
+    ensures whole { IfNone result (lines_at header.now + line_len * line + line_len
+        ≤ length bytes.now) }
 {
-    let at = header.lines_at() + 8 * line as usize;
-    if bytes.len() < at + 8 {
+    let at = header.lines_at() + LINE_LEN * line as usize;
+    if bytes.len() < at + LINE_LEN {
         return Some(ObjectFault::Cut(bytes.len()));
     }
     let address = u32_at(bytes, at);
-    let rises = line == 0 || u32_at(bytes, at - 8) < address;
+    let rises = line == 0 || u32_at(bytes, at - LINE_LEN) < address;
     if !rises || address >= header.instrs {
         return Some(ObjectFault::BadCount(at));
     }

@@ -1,5 +1,6 @@
 // The words of the record of an instruction.
 ghost use Rattle.std.specs.Prelude.{◌≡◌, ◌+◌, ◌≤◌, length};
+ghost use Rattle.alma_object_format.specs.Lengths.{instr_len};
 ghost use Rattle.alma_object.specs.View.{opcode_of_record, word_of_record, value_of_record};
 
 use crate::record::InstrRecord;
@@ -9,7 +10,7 @@ impl<'b> InstrRecord<'b> {
     /// The record in the bytes at an offset.
     #[inline(always)]
     pub(crate) fn new(bytes: &'b [u8], at: usize) -> InstrRecord<'b>
-        requires { at + 17 ≤ length bytes.now }
+        requires { at + instr_len ≤ length bytes.now }
         ensures bytes { result.bytes.now ≡ bytes.now }
         ensures at { result.at ≡ at }
     {

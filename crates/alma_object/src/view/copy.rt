@@ -8,7 +8,7 @@ use crate::routine::RoutineView;
 use crate::view::{GlobalView, ObjectView};
 use alma_base::{NoMemory, Range};
 use alma_code::{Code, CodeGlobal, CodeParam, Head, Instr, Line, RoutineHead, Run};
-use alma_object_format::{line_in, range_in};
+use alma_object_format::{LINE_LEN, RANGE_LEN, line_in, range_in};
 use std::alloc::Global;
 
 #[tactic(auto, using(crate::proofs::Items::take_steps))]
@@ -109,7 +109,7 @@ impl<'b> ObjectView<'b> {
         let ranges_at = self.header.ranges_at();
         let mut ranges = Vec::new(alloc);
         for i in 0..self.header.ranges {
-            ranges.push(range_in(self.bytes, ranges_at + 16 * i as usize))?;
+            ranges.push(range_in(self.bytes, ranges_at + RANGE_LEN * i as usize))?;
         }
         Ok(ranges)
     }
@@ -132,7 +132,7 @@ impl<'b> ObjectView<'b> {
         let lines_at = self.header.lines_at();
         let mut lines = Vec::new(alloc);
         for i in 0..self.header.lines {
-            lines.push(line_in(self.bytes, lines_at + 8 * i as usize))?;
+            lines.push(line_in(self.bytes, lines_at + LINE_LEN * i as usize))?;
         }
         Ok(lines)
     }

@@ -15,9 +15,9 @@ use crate::view::ObjectView;
 use alma_base::Range;
 use alma_code::{Instr, Line};
 use alma_object_format::{
-    ObjectFault, code_end, code_start, instr_at, line_in, name_end, name_start, params_end,
-    params_start, range_in, read_header, runs_end, runs_start, sections_fault, text_end,
-    text_start, u32_at,
+    GLOBAL_LEN, INSTR_LEN, LINE_LEN, ObjectFault, PARAM_LEN, RANGE_LEN, ROUTINE_LEN, RUN_LEN,
+    code_end, code_start, instr_at, line_in, name_end, name_start, params_end, params_start,
+    range_in, read_header, runs_end, runs_start, sections_fault, text_end, text_start, u32_at,
 };
 
 /// A global of an object. It lends its name.
@@ -97,7 +97,7 @@ impl<'b> ObjectView<'b> {
         requires { at < length (code_of_view self.now).instrs }
         ensures { slice_get (code_of_view self.now).instrs at ≡ Some result }
     {
-        instr_at(self.bytes, self.instrs_at + 17 * at as usize)
+        instr_at(self.bytes, self.instrs_at + INSTR_LEN * at as usize)
     }
 
     /// The record of the instruction at an address.
@@ -107,7 +107,7 @@ impl<'b> ObjectView<'b> {
         requires { at < length (code_of_view self.now).instrs }
         ensures { slice_get (code_of_view self.now).instrs at ≡ Some (instr_of_record result) }
     {
-        InstrRecord::new(self.bytes, self.instrs_at + 17 * at as usize)
+        InstrRecord::new(self.bytes, self.instrs_at + INSTR_LEN * at as usize)
     }
 
     /// The range that a range word names, low and high in it, straight from its record; None past
@@ -118,7 +118,7 @@ impl<'b> ObjectView<'b> {
         ensures { result ≡ slice_get (code_of_view self.now).ranges i }
     {
         if i < self.header.ranges {
-            Some(range_in(self.bytes, self.header.ranges_at() + 16 * i as usize))
+            Some(range_in(self.bytes, self.header.ranges_at() + RANGE_LEN * i as usize))
         } else {
             None
         }
@@ -152,15 +152,15 @@ impl<'b> ObjectView<'b> {
         ensures routine { routine_of_view result ≡ routine_in self.now.bytes.now self.now.header i }
         ensures start { result.code_start ≡ start_at (code_of_view self.now) i }
     {
-        let at = self.routines_at + 28 * i as usize;
+        let at = self.routines_at + ROUTINE_LEN * i as usize;
         let params = params_start(self.bytes, &self.header, i);
         let runs = runs_start(self.bytes, &self.header, i);
         RoutineView {
             bytes: self.bytes,
             name: self.name(i),
-            params_at: self.header.params_at() + 8 * params as usize,
+            params_at: self.header.params_at() + PARAM_LEN * params as usize,
             param_count: params_end(self.bytes, &self.header, i) - params,
-            runs_at: self.header.runs_at() + 12 * runs as usize,
+            runs_at: self.header.runs_at() + RUN_LEN * runs as usize,
             run_count: runs_end(self.bytes, &self.header, i) - runs,
             slots: u32_at(self.bytes, at + 16),
             declared: u32_at(self.bytes, at + 20),
@@ -191,7 +191,7 @@ impl<'b> ObjectView<'b> {
         requires { i < self.now.header.globals }
         ensures { global_of_view result ≡ global_in self.now.bytes.now self.now.header i }
     {
-        let at = self.header.globals_at() + 12 * i as usize;
+        let at = self.header.globals_at() + GLOBAL_LEN * i as usize;
         GlobalView {
             name: self.name(self.header.routines + i),
             slot: u32_at(self.bytes, at + 4),
@@ -254,7 +254,7 @@ impl<'b> ObjectView<'b> {
         requires { k < length (code_of_view self.now).lines }
         ensures { slice_get (code_of_view self.now).lines k ≡ Some result }
     {
-        line_in(self.bytes, self.header.lines_at() + 8 * k as usize)
+        line_in(self.bytes, self.header.lines_at() + LINE_LEN * k as usize)
     }
 
     // How many lines begin at or before an address, by halving.
