@@ -18,6 +18,9 @@ use alma_plan::{refuse, report};
 use itoa::Buffer;
 use std::alloc::Global;
 
+/// The name of the program.
+const PROGRAM: &[u8] = b"alma_back";
+
 // Says that a line of the script is none.
 fn refuse_line<E: Sink>(err: &mut E, line: usize) -> Status
     ensures { Reports (tells program exit.own_refusal (codes "bad line " ++ decimal line))
@@ -37,7 +40,7 @@ fn tell<E: Sink>(err: &mut E, end: BackEnd) -> Status
     match end {
         BackEnd::Walked => Status(exit::SUCCEEDED),
         BackEnd::BadLine(line) => refuse_line(err, line),
-        BackEnd::Refused(refusal) => refuse(err, b"alma_back", refusal),
+        BackEnd::Refused(refusal) => refuse(err, PROGRAM, refusal),
     }
 }
 

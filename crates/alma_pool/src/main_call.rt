@@ -18,6 +18,9 @@ use alma_plan::{refuse, report};
 use itoa::Buffer;
 use std::alloc::Global;
 
+/// The name of the program.
+const PROGRAM: &[u8] = b"alma_pool";
+
 // Says that a byte may not stand in the file of turns.
 fn refuse_turn<E: Sink>(err: &mut E, turn: usize) -> Status
     ensures { Reports (tells program exit.own_refusal (codes "bad turn " ++ decimal turn))
@@ -37,7 +40,7 @@ fn tell<E: Sink>(err: &mut E, end: PoolEnd) -> Status
     match end {
         PoolEnd::Shown => Status(exit::SUCCEEDED),
         PoolEnd::BadTurn(turn) => refuse_turn(err, turn),
-        PoolEnd::Refused(refusal) => refuse(err, b"alma_pool", refusal),
+        PoolEnd::Refused(refusal) => refuse(err, PROGRAM, refusal),
     }
 }
 
