@@ -1,10 +1,8 @@
 // The top call: from the words to the status.
-ghost use Rattle.std.specs.Prelude.{◌++◌, codes, decimal};
 ghost use Rattle.alma_plan.specs.Causes.{Causes};
 ghost use Rattle.alma_plan.specs.Course.{Answers, Reports};
 ghost use Rattle.alma_io.specs.Outside.{outside_of};
-ghost use Rattle.alma_plan.specs.Plan.{tells, plain};
-ghost use Rattle.alma_driver_words.specs.Exit as exit;
+ghost use Rattle.alma_plan.specs.Plan.{plain};
 ghost use Rattle.alma_driver_words.specs.Words.{texts};
 ghost use Rattle.alma_back.specs.Due.{program, back_plan};
 ghost use Rattle.alma_back.specs.Ends.{back_end};
@@ -14,24 +12,11 @@ use crate::serve::perform;
 use alma_base::Status;
 use alma_driver_words::exit;
 use alma_io::{Files, Sink, Source};
-use alma_plan::{refuse, report};
-use itoa::Buffer;
+use alma_plan::{refuse, refuse_number};
 use std::alloc::Global;
 
 /// The name of the program.
 const PROGRAM: &[u8] = b"alma_back";
-
-// Says that a line of the script is none.
-fn refuse_line<E: Sink>(err: &mut E, line: usize) -> Status
-    ensures { Reports (tells program exit.own_refusal (codes "bad line " ++ decimal line))
-        (E.side err.old) (E.side err.new) result.0 }
-{
-    let mut digits = Buffer::new();
-    let front = b"alma_back: bad line ".as_slice();
-    let number = digits.format(line).as_bytes();
-    let end = b"\n".as_slice();
-    report(err, exit::OWN_REFUSAL, &[front, number, end])
-}
 
 // Says on err how the call ends: the status of that, or that of a write fault where err fails.
 fn tell<E: Sink>(err: &mut E, end: BackEnd) -> Status
@@ -39,7 +24,9 @@ fn tell<E: Sink>(err: &mut E, end: BackEnd) -> Status
 {
     match end {
         BackEnd::Walked => Status(exit::SUCCEEDED),
-        BackEnd::BadLine(line) => refuse_line(err, line),
+        BackEnd::BadLine(line) => {
+            refuse_number(err, PROGRAM, exit::OWN_REFUSAL, b"bad line ", line as u64)
+        }
         BackEnd::Refused(refusal) => refuse(err, PROGRAM, refusal),
     }
 }

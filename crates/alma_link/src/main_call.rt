@@ -19,7 +19,7 @@ use alma_driver_words::exit;
 use alma_io::{Files, Sink, Source};
 use alma_ir::Program;
 use alma_join::JoinError;
-use alma_plan::{Refusal, Stop, refuse, report, tell_file, tell_program};
+use alma_plan::{Refusal, Stop, refuse, refuse_number, report, tell_file, tell_program};
 use itoa::Buffer;
 use std::alloc::Global;
 
@@ -58,18 +58,6 @@ fn tell_import<'t, E: Sink>(err: &mut E, fault: &'t [u8], unit: u32, name: &'t [
     )
 }
 
-// Says with which module a bound is first passed.
-fn tell_too_large<E: Sink>(err: &mut E, unit: u32) -> Status
-    ensures { Reports (tells program exit.own_refusal (codes "TooLarge " ++ decimal unit))
-        (E.side err.old) (E.side err.new) result.0 }
-{
-    let mut digits = Buffer::new();
-    let front = b"alma_link: TooLarge ".as_slice();
-    let number = digits.format(unit).as_bytes();
-    let end = b"\n".as_slice();
-    report(err, exit::OWN_REFUSAL, &[front, number, end])
-}
-
 // Says why the modules are not joined.
 fn tell_join<E: Sink>(err: &mut E, units: &[Program], error: JoinError) -> Status
     ensures { Reports (join_end (map program_of units.now) error) (E.side err.old) (E.side err.new)
@@ -90,7 +78,13 @@ fn tell_join<E: Sink>(err: &mut E, units: &[Program], error: JoinError) -> Statu
                 routine_name(units, unit, routine),
             )
         }
-        JoinError::TooLarge(unit) => tell_too_large(err, unit),
+        JoinError::TooLarge(unit) => refuse_number(
+            err,
+            PROGRAM,
+            exit::OWN_REFUSAL,
+            b"TooLarge ",
+            u64::from(unit),
+        ),
         JoinError::Memory => refuse(err, PROGRAM, Refusal::Stopped(Stop::Memory)),
     }
 }

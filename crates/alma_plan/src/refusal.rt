@@ -1,7 +1,7 @@
 // Why calls are refused, in the words that all programs share.
-ghost use Rattle.std.specs.Prelude.{◌++◌, codes};
+ghost use Rattle.std.specs.Prelude.{◌++◌, codes, decimal};
 ghost use Rattle.alma_driver_words.specs.Exit as exit;
-ghost use Rattle.alma_plan.specs.Plan.{bad_word, tells};
+ghost use Rattle.alma_plan.specs.Plan.{tells};
 ghost use Rattle.alma_plan.specs.Course.{Reports};
 ghost use Rattle.alma_plan.specs.Refusals.{with_number, object_fault_text, rule_fault_text, refusal_end};
 
@@ -25,17 +25,6 @@ pub enum Refusal {
     BadCode(VerifyFault),
     /// What stops any call.
     Stopped(Stop),
-}
-
-// Says that a word cannot stand where it is.
-fn refuse_word<E: Sink>(err: &mut E, program: &[u8], word: usize) -> Status
-    ensures { Reports (bad_word program.now word) (E.side err.old) (E.side err.new) result.0 }
-{
-    let mut digits = Buffer::new();
-    let front = b": bad word ".as_slice();
-    let number = digits.format(word).as_bytes();
-    let end = b"\n".as_slice();
-    report(err, exit::BAD_WORD, &[program, front, number, end])
 }
 
 // Says that bytes are no object, by the name of the fault and its number, where it has one.
@@ -108,13 +97,34 @@ pub fn refuse_with<'t, E: Sink>(
     report(err, status, &[program, front, text, end])
 }
 
+/// Says a line on err, in the name of a program, that ends in a number: this status, or that of a
+/// write fault where err fails.
+pub fn refuse_number<'t, E: Sink>(
+    err: &mut E,
+    program: &'t [u8],
+    status: u8,
+    text: &'t [u8],
+    number: u64,
+) -> Status
+    ensures { Reports (tells program.now status (text.now ++ decimal number)) (E.side err.old)
+        (E.side err.new) result.0 }
+{
+    let mut digits = Buffer::new();
+    let front = b": ".as_slice();
+    let digits = digits.format(number).as_bytes();
+    let end = b"\n".as_slice();
+    report(err, status, &[program, front, text, digits, end])
+}
+
 /// Says on err, in the name of a program, why a call is refused: the status of that, or that of a
 /// write fault where err fails.
 pub fn refuse<E: Sink>(err: &mut E, program: &[u8], refusal: Refusal) -> Status
     ensures { Reports (refusal_end program.now refusal) (E.side err.old) (E.side err.new) result.0 }
 {
     match refusal {
-        Refusal::BadWord(word) => refuse_word(err, program, word),
+        Refusal::BadWord(word) => {
+            refuse_number(err, program, exit::BAD_WORD, b"bad word ", word as u64)
+        }
         Refusal::BadObject(fault) => refuse_object(err, program, fault),
         Refusal::BadCode(fault) => refuse_code(err, program, fault),
         Refusal::Stopped(stop) => refuse_with(err, program, stop.status(), stop.text()),

@@ -1,5 +1,5 @@
 // What is said on err of the end of a program, and of a file that is refused.
-ghost use Rattle.std.specs.Prelude.{[], ◌++◌, codes, decimal};
+ghost use Rattle.std.specs.Prelude.{[], codes, decimal};
 ghost use Rattle.alma_driver_words.specs.Exit as exit;
 ghost use Rattle.alma_plan.specs.Course.{Reports};
 ghost use Rattle.alma_plan.specs.Plan.{ending_of, tells};
@@ -8,7 +8,7 @@ ghost use Rattle.alma_plan.specs.Programs.{fault_words, named_words, refuse_sour
 ghost use Rattle.alma_source.specs.Texts.{refusal_line};
 
 use crate::end::ProgramEnd;
-use crate::refusal::{Refusal, refuse, refuse_with};
+use crate::refusal::{Refusal, refuse, refuse_number, refuse_with};
 use crate::writing::report;
 use alma_base::{Place, RunFault, Status};
 use alma_code::End;
@@ -53,18 +53,6 @@ fn tell_steps_out<E: Sink>(err: &mut E, program: &[u8]) -> Status
     refuse_with(err, program, exit::STEPS_OUT, b"steps out")
 }
 
-// Says the size of a program that is too large.
-fn tell_size<E: Sink>(err: &mut E, program: &[u8], size: u64) -> Status
-    ensures { Reports (tells program.now exit.too_much_code (codes "too much code " ++ decimal size))
-        (E.side err.old) (E.side err.new) result.0 }
-{
-    let mut digits = Buffer::new();
-    let front = b": too much code ".as_slice();
-    let number = digits.format(size).as_bytes();
-    let end = b"\n".as_slice();
-    report(err, exit::TOO_MUCH_CODE, &[program, front, number, end])
-}
-
 /// Says on err, in the name of a program, how the run of another ended, where one that failed ends
 /// with this status and without a word: the status, or that of a write fault where err fails.
 pub fn tell_program<E: Sink>(err: &mut E, program: &[u8], failed: u8, end: ProgramEnd) -> Status
@@ -76,7 +64,9 @@ pub fn tell_program<E: Sink>(err: &mut E, program: &[u8], failed: u8, end: Progr
         ProgramEnd::Ended(End::Failed, _) => Status(failed),
         ProgramEnd::Ended(End::Fault(fault), line) => tell_fault(err, program, fault, line),
         ProgramEnd::StepsOut => tell_steps_out(err, program),
-        ProgramEnd::TooMuchCode(size) => tell_size(err, program, size),
+        ProgramEnd::TooMuchCode(size) => {
+            refuse_number(err, program, exit::TOO_MUCH_CODE, b"too much code ", size)
+        }
         ProgramEnd::Stopped(stop) => refuse(err, program, Refusal::Stopped(stop)),
     }
 }
