@@ -4,6 +4,7 @@ use Rattle.std.specs.List.{list_any}
 use Rattle.alma_ir.specs.Phrases.{Phrase, StmtPhrase, stmts_phrases}
 use Rattle.alma_ir.specs.Tree.{Program, Return, routine_at}
 use Rattle.alma_scan.specs.Bytes.{value_of}
+use Rattle.alma_driver_words.specs.Exit as exit
 use Rattle.alma_driver_words.specs.Words.{default_steps, greatest_steps, is_file_name, is_numeral, steps_digits}
 use Rattle.alma_listing.specs.Lister.{listing_of}
 use Rattle.alma_source.specs.Verdict.{Verdict}
@@ -51,7 +52,7 @@ body_returns p = list_any is_return (stmts_phrases (routine_at p 0).body)
 
 -- the alternatives of a program are listed by another, in so many steps; one whose body returns is refused
 abbrev pub unless_returns : (returns : Bool) → Program → (steps : ℕ) → Plan Verdict Last
-unless_returns true p steps = Ends (Tells (silent (tells program 13 (codes "ModuleReturn"))))
+unless_returns true p steps = Ends (Tells (silent (tells program exit.own_refusal (codes "ModuleReturn"))))
 unless_returns false p steps = run_plan program (listing_of p) steps
 
 abbrev pub list_plan : Program → (steps : ℕ) → Plan Verdict Last

@@ -1,6 +1,7 @@
 -- What a call shows of the alternatives of a program, in the words of a reader of its meaning.
 use Rattle.std.specs.Prelude.{◌≡◌, ◌<◌, ◌≤◌, ◌+◌, ◌*◌, ◌/◌, ℕ, suc, true, false, List, [], ◌∷◌, length, codes, Some}
 use Rattle.alma_base.specs.Limits.{input_limit, size_limit, source_limit}
+use Rattle.alma_driver_words.specs.Exit as exit
 use Rattle.alma_driver_words.specs.Words.{IsSetting, Steps, default_steps, is_file_name}
 use Rattle.alma_io.specs.Files.{Has}
 use Rattle.alma_ir.specs.Checked.{IsChecked, HaveNoReturn}
@@ -43,7 +44,8 @@ pub data IsListed (p : Program) (input : List ℕ) (steps : ℕ) (due : Due) : T
   whole : (end : End) → listing (suc steps) p input ≡ (due.out, end) → due.end ≡ listing_end end → (end ≡ CutOff → ⊥)
       → IsListed p input steps due
   -- the steps ran out: a front of them, which covers one visit of the listing program for each 32 steps
-  front : due.end ≡ tells program 5 (codes "steps out") → IsPrefix due.out (listing_text p.globals (ev_program (suc steps) p input))
+  front : due.end ≡ tells program exit.steps_out (codes "steps out")
+      → IsPrefix due.out (listing_text p.globals (ev_program (suc steps) p input))
       → Covers (first (ev_program (suc steps) (listing_of p) input)) due.out (steps / 32) → ListingMayRunOut p input steps
       → IsListed p input steps due
 
@@ -82,7 +84,7 @@ pub data ListEnds (file source input : List ℕ) (steps : ℕ) (before after : O
       → ListEnds file source input steps before after status
   -- a RETURN stands in the body of the program's module
   returns : (p : Program) → IsProgramOf source p → body_returns p ≡ true
-      → ShowsDue before after status (silent (tells program 13 (codes "ModuleReturn")))
+      → ShowsDue before after status (silent (tells program exit.own_refusal (codes "ModuleReturn")))
       → ListEnds file source input steps before after status
   -- the program that lists the alternatives is too large
   too_large : (p : Program) → IsProgramOf source p → body_returns p ≡ false → size_limit < size_of (listing_of p)

@@ -10,6 +10,7 @@ use crate::end::AllEnd;
 use crate::serve::perform;
 use crate::words::file_word;
 use alma_base::Status;
+use alma_driver_words::exit;
 use alma_io::{Files, Sink, Source};
 use alma_plan::{Refusal, refuse, refuse_with, tell_file, tell_program};
 use std::alloc::Global;
@@ -24,8 +25,8 @@ fn tell<E: Sink>(err: &mut E, file: &str, end: AllEnd) -> Status
     match end {
         AllEnd::BadWord(word) => refuse(err, PROGRAM, Refusal::BadWord(word)),
         AllEnd::NoProgram(stop) => tell_file(err, PROGRAM, file.as_bytes(), stop),
-        AllEnd::ModuleReturn => refuse_with(err, PROGRAM, 13, b"ModuleReturn"),
-        AllEnd::Run(end) => tell_program(err, PROGRAM, 0, end),
+        AllEnd::ModuleReturn => { refuse_with(err, PROGRAM, exit::OWN_REFUSAL, b"ModuleReturn") }
+        AllEnd::Run(end) => tell_program(err, PROGRAM, exit::SUCCEEDED, end),
     }
 }
 

@@ -1,10 +1,10 @@
 // From the words to an end.
-ghost use Rattle.std.specs.Prelude.{◌≤◌, ◌^◌, List, ℕ};
+ghost use Rattle.std.specs.Prelude.{◌≤◌, List, ℕ};
 ghost use Rattle.alma_io.specs.Sides.{FilesSide};
 ghost use Rattle.alma_ir.specs.Checked.{IsChecked};
 ghost use Rattle.alma_ir.specs.View.{program_of};
 ghost use Rattle.alma_plan.specs.Course.{Follows};
-ghost use Rattle.alma_driver_words.specs.Words.{texts};
+ghost use Rattle.alma_driver_words.specs.Words.{greatest_steps, texts};
 ghost use Rattle.alma_resolved.specs.Room.{HasRoom};
 ghost use Rattle.alma_all.specs.All.{program as program_name, all_sense, all_plan, file_plan, list_plan, with_options};
 ghost use Rattle.alma_all.specs.Ends.{all_end, file_of};
@@ -28,7 +28,7 @@ fn list<I: Source, O: Sink>(
 ) -> AllEnd
     requires checked { IsChecked (program_of program.now) }
     requires room { HasRoom (program_of program.now) }
-    requires few { steps ≤ 2 ^ 62 }
+    requires few { steps ≤ greatest_steps }
     ensures { (file : List ℕ) (files : FilesSide)
         → Follows all_sense program_name (list_plan (program_of program.now) steps) files files
         (I.side input.old) (I.side input.new) (O.side out.old) (O.side out.new)
@@ -50,7 +50,7 @@ fn list_file<F: Files, I: Source, O: Sink>(
     steps: u64,
     out: &mut O,
 ) -> AllEnd
-    requires few { steps ≤ 2 ^ 62 }
+    requires few { steps ≤ greatest_steps }
     ensures { Follows all_sense program_name (file_plan file.now steps)
         (F.side files.old) (F.side files.new)
         (I.side input.old) (I.side input.new) (O.side out.old) (O.side out.new)

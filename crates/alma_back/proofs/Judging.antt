@@ -1,6 +1,6 @@
 -- How a call goes by its plan.
-use Rattle.std.proofs.Common.{◌≡◌, ◌∙◌, ℕ, List, [], ◌∷◌, ◌++◌, refl, sym, ap, subst, inl, inr, arith}
-use Rattle.std.specs.Prelude.{Bool, true, false, cond, Option, None, Some, Result, Ok, Err, OnOk, OnErr, codes, decimal}
+use Rattle.std.proofs.Common.{◌≡◌, ℕ, List, [], ◌∷◌, refl, sym, subst, inl, inr, arith}
+use Rattle.std.specs.Prelude.{Bool, true, false, cond, Option, None, Some, Result, Ok, Err, OnOk, OnErr}
 use Rattle.std.specs.Io.KnownBytes.{Appends}
 use Rattle.alma_code.specs.Plain.{PlainCode}
 use Rattle.alma_code.specs.Reads.{code_reads}
@@ -10,7 +10,7 @@ use Rattle.alma_verify.specs.Bytes.{object_code}
 use Rattle.alma_plan.proofs.OwnEnds.{HasOwnEnds}
 use Rattle.alma_plan.specs.Course.{Follows, Goes, cut_short, hungry_within, whole}
 use Rattle.alma_plan.specs.Objects.{object_refusal}
-use Rattle.alma_plan.specs.Plan.{Plan, Due, Ending, IsDue, line_of, silent, prints, plain}
+use Rattle.alma_plan.specs.Plan.{Plan, Due, Ending, IsDue, silent, prints, plain}
 use Rattle.alma_plan.specs.Refusals.{refusal_end}
 use Rattle.alma_driver_words.specs.Words.{is_file_name}
 use Rattle.alma_plan.specs.declared.refusal.Refusal.{Refusal}
@@ -26,13 +26,6 @@ use Rattle.alma_back.specs.Ends.{back_end}
 use Rattle.alma_back.specs.Inner.{IsUnread, Shows}
 use Rattle.alma_back.specs.Script.{Line, lines_in}
 use Rattle.alma_back.specs.Session.{session}
-
--- the parts of the text of a bad line
-pub line_parts : (front number end : List ℕ) (line : ℕ) → front ≡ codes "alma_back: bad line " → number ≡ decimal line → end ≡ codes "\n"
-    → front ++ (number ++ (end ++ [])) ≡ line_of program (codes "bad line " ++ decimal line)
-line_parts front number end line f n e =
-    ap (λ x. x ++ (number ++ (end ++ []))) f ∙ ap (λ x. codes "alma_back: bad line " ++ (x ++ (end ++ []))) n
-    ∙ ap (λ x. codes "alma_back: bad line " ++ (decimal line ++ (x ++ []))) e
 
 -- ---- how a walk ends
 

@@ -6,6 +6,7 @@ use Rattle.alma_code.specs.Reads.{code_reads}
 use Rattle.alma_verify.specs.Bytes.{object_code}
 use Rattle.alma_plan.specs.Plan.{Due, Ending, Plan, Fetches, Reads, Ends, silent, prints, tells, bad_word}
 use Rattle.alma_plan.specs.Objects.{object_refusal}
+use Rattle.alma_driver_words.specs.Exit as exit
 use Rattle.alma_driver_words.specs.Words.{is_file_name}
 use Rattle.alma_back.specs.Script.{Line, lines_in}
 use Rattle.alma_back.specs.Session.{session}
@@ -32,7 +33,7 @@ walk_plan None code lines = walked_on (code_reads code) code lines
 
 -- both files are there: the first bad line of the script comes before any fault of the object
 abbrev pub judged_by : Result (List Line) ℕ → (object : List ℕ) → Plan ⊥ Due
-judged_by (Err line) object = Ends (silent (tells program 13 (codes "bad line " ++ decimal line)))
+judged_by (Err line) object = Ends (silent (tells program exit.own_refusal (codes "bad line " ++ decimal line)))
 judged_by (Ok lines) object = walk_plan (object_refusal program object) (object_code object) lines
 
 abbrev pub verify_plan : (object script : List ℕ) → Plan ⊥ Due

@@ -1,9 +1,8 @@
 // The top call: from the words to the status.
-ghost use Rattle.std.specs.Prelude.{◌++◌, codes, decimal};
 ghost use Rattle.alma_plan.specs.Causes.{Causes};
 ghost use Rattle.alma_plan.specs.Course.{Answers, Reports};
 ghost use Rattle.alma_io.specs.Outside.{outside_of};
-ghost use Rattle.alma_plan.specs.Plan.{tells, plain};
+ghost use Rattle.alma_plan.specs.Plan.{plain};
 ghost use Rattle.alma_driver_words.specs.Words.{texts};
 ghost use Rattle.alma_back.specs.Due.{program, back_plan};
 ghost use Rattle.alma_back.specs.Ends.{back_end};
@@ -11,31 +10,24 @@ ghost use Rattle.alma_back.specs.Ends.{back_end};
 use crate::end::BackEnd;
 use crate::serve::perform;
 use alma_base::Status;
+use alma_driver_words::exit;
 use alma_io::{Files, Sink, Source};
-use alma_plan::{refuse, report};
-use itoa::Buffer;
+use alma_plan::{refuse, refuse_number};
 use std::alloc::Global;
 
-// Says that a line of the script is none.
-fn refuse_line<E: Sink>(err: &mut E, line: usize) -> Status
-    ensures { Reports (tells program 13 (codes "bad line " ++ decimal line)) (E.side err.old)
-        (E.side err.new) result.0 }
-{
-    let mut digits = Buffer::new();
-    let front = b"alma_back: bad line ".as_slice();
-    let number = digits.format(line).as_bytes();
-    let end = b"\n".as_slice();
-    report(err, 13, &[front, number, end])
-}
+/// The name of the program.
+const PROGRAM: &[u8] = b"alma_back";
 
 // Says on err how the call ends: the status of that, or that of a write fault where err fails.
 fn tell<E: Sink>(err: &mut E, end: BackEnd) -> Status
     ensures { Reports (back_end end) (E.side err.old) (E.side err.new) result.0 }
 {
     match end {
-        BackEnd::Walked => Status(0),
-        BackEnd::BadLine(line) => refuse_line(err, line),
-        BackEnd::Refused(refusal) => refuse(err, b"alma_back", refusal),
+        BackEnd::Walked => Status(exit::SUCCEEDED),
+        BackEnd::BadLine(line) => {
+            refuse_number(err, PROGRAM, exit::OWN_REFUSAL, b"bad line ", line as u64)
+        }
+        BackEnd::Refused(refusal) => refuse(err, PROGRAM, refusal),
     }
 }
 

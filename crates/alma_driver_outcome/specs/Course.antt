@@ -4,6 +4,7 @@ use Rattle.alma_base.specs.Limits.{input_limit}
 use Rattle.std.specs.Io.KnownBytes.{Appends, Consumes, IsAtEnd}
 use Rattle.alma_io.specs.Fronts.{AppendsFront}
 use Rattle.alma_io.specs.Whole.{LosesAtMost}
+use Rattle.alma_driver_words.specs.Exit as exit
 use Rattle.alma_driver_words.specs.Words.{file_of}
 use Rattle.alma_io.specs.Sides.{SinkSide, SourceSide, FilesSide}
 use Rattle.alma_io.specs.Outside.{Outside, HasRisen, FilesStay, StoredFile, OthersStay, HasStored, Gains, FailsWithin}
@@ -117,7 +118,7 @@ Performs to_read outcome files files' input input' out out' end =
 abbrev pub Reports : (file : List ℕ) → End → SinkSide → SinkSide → ℕ → Type 0
 Reports file end old new status =
     ((status ≡ status_of end) × Gains old new (text_of file end))
-    ⊎ ((status ≡ 7) × FailsWithin old new (text_of file end))
+    ⊎ ((status ≡ exit.write_fault) × FailsWithin old new (text_of file end))
 
 -- How a call with these words may change what is outside, and which status it may answer.
 pub record Answers (words : List (List ℕ)) (before after : Outside) (status : ℕ) : Type 0 where

@@ -19,6 +19,7 @@ use Rattle.alma_machine.specs.declared.machine.RunEnd.{RunEnd}
 use Rattle.alma_machine.specs.declared.machine.RunEnd.TheVariants as run
 use Rattle.alma_io.specs.declared.whole.ReadAll.{ReadAll}
 use Rattle.alma_io.specs.declared.whole.ReadAll.TheVariants as whole
+use Rattle.alma_driver_words.specs.Exit as exit
 use Rattle.alma_driver_words.specs.declared.words.WordsError.{WordsError}
 use Rattle.alma_driver_words.specs.declared.words.WordsError.TheVariants as words
 use Rattle.alma_source.specs.Texts.{refusal_text}
@@ -30,19 +31,19 @@ use Rattle.alma_run_laws.specs.Shown.{line_text}
 
 -- the status of an end
 abbrev pub status_of : End → ℕ
-status_of (Succeeded counts) = 0
-status_of (Failed counts) = 1
-status_of (BadWord k) = 2
-status_of (Refused fault place) = 3
-status_of (Faulted fault line counts) = 4
-status_of (StepsOut counts) = 5
-status_of ReadFault = 6
-status_of WriteFault = 7
-status_of Memory = 8
-status_of (BadObject fault) = 9
-status_of (BadCode fault) = 9
-status_of TooLong = 10
-status_of (TooMuchCode size) = 11
+status_of (Succeeded counts) = exit.succeeded
+status_of (Failed counts) = exit.failed
+status_of (BadWord k) = exit.bad_word
+status_of (Refused fault place) = exit.refused
+status_of (Faulted fault line counts) = exit.faulted
+status_of (StepsOut counts) = exit.steps_out
+status_of ReadFault = exit.read_fault
+status_of WriteFault = exit.write_fault
+status_of Memory = exit.no_memory
+status_of (BadObject fault) = exit.bad_object
+status_of (BadCode fault) = exit.bad_object
+status_of TooLong = exit.too_long
+status_of (TooMuchCode size) = exit.too_much_code
 
 -- the text of an end, but for what names a word, a place, a fault, a size or counts
 abbrev pub fixed_text : End → List ℕ

@@ -7,6 +7,7 @@ use Rattle.alma_mean.specs.Events.{End, Succeeded, Failed, Faulted, CutOff, firs
 use Rattle.alma_mean.specs.Meaning.{ev_program, result}
 use Rattle.alma_lower_implements.specs.Implements.{Covers}
 use Rattle.alma_lower_sound.specs.Reads.{program_reads}
+use Rattle.alma_driver_words.specs.Exit as exit
 use Rattle.alma_driver_words.specs.Words.{Asks, Run, file_of}
 use Rattle.alma_io.specs.Sides.{SourceSide}
 use Rattle.alma_io.specs.Outside.{Outside, Gains}
@@ -39,10 +40,10 @@ IsInputLeft false before after = after ≡ before
 
 -- the status of an end of the meaning; steps ran out where it is cut off
 abbrev pub meant_status : End → ℕ
-meant_status Succeeded = 0
-meant_status Failed = 1
-meant_status (Faulted fault line) = 4
-meant_status CutOff = 5
+meant_status Succeeded = exit.succeeded
+meant_status Failed = exit.failed
+meant_status (Faulted fault line) = exit.faulted
+meant_status CutOff = exit.steps_out
 
 -- the text of an end of the meaning: a fault is told with its name and its line
 abbrev pub meant_text : End → List ℕ
@@ -62,7 +63,7 @@ pub record ShowsResult (stats : Bool) (meant : List ℕ × End) (before after : 
 -- the steps ran out: out gained a front of the prints of the meaning, which covers one visit for each 32 steps
 pub record ShowsFront (words : List (List ℕ)) (stats : Bool) (p : Program) (input : List ℕ) (steps : ℕ) (before after : Outside)
     (status : ℕ) : Type 0 where
-  pub status_is : status ≡ 5
+  pub status_is : status ≡ exit.steps_out
   pub printed : List ℕ
   pub covers : Covers (first (ev_program (suc steps) p input)) printed (steps / 32)
   pub few : MayRunOut p input steps
@@ -76,10 +77,10 @@ pub data RunEnds (words : List (List ℕ)) (source input : List ℕ) (steps : �
     -- the source has this fault at this place, and no other: it is refused for that
     refuses : (fault : SourceFault) (offset : ℕ) → IsRefused source fault offset
         → ((other : SourceFault) (place : ℕ) → IsRefused source other place → (fault ≡ other) × (offset ≡ place))
-        → status ≡ 3 → GainsBoth before after [] (text_of (file_of words) (Refused fault (place_of source offset)))
+        → status ≡ exit.refused → GainsBoth before after [] (text_of (file_of words) (Refused fault (place_of source offset)))
         → RunEnds words source input steps stats before after status
     -- the source is a program whose size is past its limit: it is refused with that number
-    too_large : (p : Program) → IsProgramOf source p → size_limit < size_of p → status ≡ 11
+    too_large : (p : Program) → IsProgramOf source p → size_limit < size_of p → status ≡ exit.too_much_code
         → GainsBoth before after [] (text_of (file_of words) (TooMuchCode (size_of p)))
         → RunEnds words source input steps stats before after status
     -- the source is a program: its result, or a front of its prints

@@ -4,7 +4,7 @@ ghost use Rattle.alma_driver_outcome.specs.Ends.{status_of, counts_with, fixed_t
 
 use alma_base::{Place, RunFault};
 use alma_code::VerifyFault;
-use alma_driver_words::WordsError;
+use alma_driver_words::{WordsError, exit};
 use alma_io::{Fetch, ReadAll, StoreFault};
 use alma_lower::LowerError;
 use alma_machine::RunEnd;
@@ -57,18 +57,18 @@ impl End {
         ensures { result ≡ status_of self }
     {
         match self {
-            End::Succeeded(_) => 0,
-            End::Failed(_) => 1,
-            End::BadWord(_) => 2,
-            End::Refused(_, _) => 3,
-            End::Faulted(_, _, _) => 4,
-            End::StepsOut(_) => 5,
-            End::ReadFault => 6,
-            End::WriteFault => 7,
-            End::Memory => 8,
-            End::BadObject(_) | End::BadCode(_) => 9,
-            End::TooLong => 10,
-            End::TooMuchCode(_) => 11,
+            End::Succeeded(_) => exit::SUCCEEDED,
+            End::Failed(_) => exit::FAILED,
+            End::BadWord(_) => exit::BAD_WORD,
+            End::Refused(_, _) => exit::REFUSED,
+            End::Faulted(_, _, _) => exit::FAULTED,
+            End::StepsOut(_) => exit::STEPS_OUT,
+            End::ReadFault => exit::READ_FAULT,
+            End::WriteFault => exit::WRITE_FAULT,
+            End::Memory => exit::NO_MEMORY,
+            End::BadObject(_) | End::BadCode(_) => exit::BAD_OBJECT,
+            End::TooLong => exit::TOO_LONG,
+            End::TooMuchCode(_) => exit::TOO_MUCH_CODE,
         }
     }
 

@@ -1,7 +1,9 @@
-//! What the words of a call ask for, and the source that `alma sample` is asked for.
+//! What the words of a call ask for, the source that `alma sample` is asked for, and the statuses
+//! that calls answer.
 #![tactic(auto)]
 
 mod command;
+pub mod exit;
 pub mod laws;
 mod number;
 mod options;

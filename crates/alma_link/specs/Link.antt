@@ -1,5 +1,6 @@
 -- What a call of the program comes to: its plan.
 use Rattle.std.specs.Prelude.{◌-◌, ℕ, List, [], ◌∷◌, ◌++◌, codes, decimal, get_or, Option, None, Some, Result, Ok, Err}
+use Rattle.alma_driver_words.specs.Exit as exit
 use Rattle.alma_driver_words.specs.Words.{default_steps}
 use Rattle.alma_ir.specs.Tree.{Program, routine_at}
 use Rattle.alma_join.specs.Joined.{JoinFault, Missing, Twice, HeadDiffers, TooLarge, join_fault, joined_program, no_program}
@@ -14,7 +15,7 @@ program = codes "alma_link"
 
 -- how a run ends that fails
 abbrev pub failure : Ending
-failure = ending_of 1 []
+failure = ending_of exit.failed []
 
 -- ---- faults of modules
 
@@ -43,7 +44,7 @@ task_plan (Compile object) p = store_plan program p object
 -- modules without a fault are joined, and others are refused
 abbrev pub unless_fault : Option JoinFault → Task → List Program → Plan Verdict Last
 unless_fault None task units = task_plan task (joined_program units)
-unless_fault (Some fault) task units = Ends (Tells (silent (tells program 13 (join_text units fault))))
+unless_fault (Some fault) task units = Ends (Tells (silent (tells program exit.own_refusal (join_text units fault))))
 
 -- all modules are there
 abbrev pub join_plan : Task → List Program → Plan Verdict Last

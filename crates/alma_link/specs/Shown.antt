@@ -14,6 +14,7 @@ use Rattle.alma_run_laws.specs.Shown.{size_of}
 use Rattle.alma_run_laws.specs.Stored.{SpellsCodeOf}
 use Rattle.alma_source.specs.Refusal.{IsProgramOf, IsRefused, place_of}
 use Rattle.alma_source.specs.declared.fault.SourceFault.{SourceFault}
+use Rattle.alma_driver_words.specs.Exit as exit
 use Rattle.alma_driver_words.specs.Words.{default_steps}
 use Rattle.alma_link.specs.Link.{program, failure, join_text}
 use Rattle.alma_link.specs.Words.{Task, AsksForTask}
@@ -61,7 +62,7 @@ pub data ModulesEnd (Performs : Program → Type 0) (files sources : List (List 
       → ModulesEnd Performs files sources before after status
   -- all hold modules, and these cannot be joined: the first fault is told
   unjoined : (units : List Program) (fault : JoinFault) → AreModulesOf sources units → join_fault units ≡ Some fault
-      → ShowsDue before after status (silent (tells program 13 (join_text units fault)))
+      → ShowsDue before after status (silent (tells program exit.own_refusal (join_text units fault)))
       → ModulesEnd Performs files sources before after status
   -- the joined program is too large
   too_large : (units : List Program) → AreModulesOf sources units → join_fault units ≡ None → size_limit < size_of (joined_program units)

@@ -6,6 +6,7 @@ ghost use Rattle.alma_plan.specs.Causes.{Causes};
 ghost use Rattle.alma_plan.specs.Course.{Answers, Reports};
 ghost use Rattle.alma_io.specs.Outside.{outside_of};
 ghost use Rattle.alma_plan.specs.Plan.{tells};
+ghost use Rattle.alma_driver_words.specs.Exit as exit;
 ghost use Rattle.alma_driver_words.specs.Words.{texts};
 ghost use Rattle.alma_plan.specs.Programs.{sense};
 ghost use Rattle.alma_link.specs.Ends.{join_end, link_end};
@@ -14,10 +15,11 @@ ghost use Rattle.alma_link.specs.Link.{failure, link_plan, program, unit_at};
 use crate::end::LinkEnd;
 use crate::serve::perform;
 use alma_base::Status;
+use alma_driver_words::exit;
 use alma_io::{Files, Sink, Source};
 use alma_ir::Program;
 use alma_join::JoinError;
-use alma_plan::{Refusal, Stop, refuse, report, tell_file, tell_program};
+use alma_plan::{Refusal, Stop, refuse, refuse_number, report, tell_file, tell_program};
 use itoa::Buffer;
 use std::alloc::Global;
 
@@ -40,7 +42,8 @@ fn routine_name(units: &[Program], unit: u32, routine: u32) -> &[u8]
 
 // Says which fault an import of this name has, by the number of its module.
 fn tell_import<'t, E: Sink>(err: &mut E, fault: &'t [u8], unit: u32, name: &'t [u8]) -> Status
-    ensures { Reports (tells program 13 (fault.now ++ (decimal unit ++ (codes " " ++ name.now))))
+    ensures { Reports (tells program exit.own_refusal
+        (fault.now ++ (decimal unit ++ (codes " " ++ name.now))))
         (E.side err.old) (E.side err.new) result.0 }
 {
     let mut digits = Buffer::new();
@@ -48,19 +51,11 @@ fn tell_import<'t, E: Sink>(err: &mut E, fault: &'t [u8], unit: u32, name: &'t [
     let number = digits.format(unit).as_bytes();
     let blank = b" ".as_slice();
     let end = b"\n".as_slice();
-    report(err, 13, &[front, fault, number, blank, name, end])
-}
-
-// Says with which module a bound is first passed.
-fn tell_too_large<E: Sink>(err: &mut E, unit: u32) -> Status
-    ensures { Reports (tells program 13 (codes "TooLarge " ++ decimal unit)) (E.side err.old)
-        (E.side err.new) result.0 }
-{
-    let mut digits = Buffer::new();
-    let front = b"alma_link: TooLarge ".as_slice();
-    let number = digits.format(unit).as_bytes();
-    let end = b"\n".as_slice();
-    report(err, 13, &[front, number, end])
+    report(
+        err,
+        exit::OWN_REFUSAL,
+        &[front, fault, number, blank, name, end],
+    )
 }
 
 // Says why the modules are not joined.
@@ -83,7 +78,13 @@ fn tell_join<E: Sink>(err: &mut E, units: &[Program], error: JoinError) -> Statu
                 routine_name(units, unit, routine),
             )
         }
-        JoinError::TooLarge(unit) => tell_too_large(err, unit),
+        JoinError::TooLarge(unit) => refuse_number(
+            err,
+            PROGRAM,
+            exit::OWN_REFUSAL,
+            b"TooLarge ",
+            u64::from(unit),
+        ),
         JoinError::Memory => refuse(err, PROGRAM, Refusal::Stopped(Stop::Memory)),
     }
 }
@@ -98,7 +99,7 @@ fn tell<E: Sink>(err: &mut E, units: &[Program], end: LinkEnd<'_>) -> Status
         LinkEnd::BadWord(word) => refuse(err, PROGRAM, Refusal::BadWord(word)),
         LinkEnd::Unread(file, stop) => tell_file(err, PROGRAM, file.as_bytes(), stop),
         LinkEnd::Unjoined(error) => tell_join(err, units, error),
-        LinkEnd::Performed(end) => tell_program(err, PROGRAM, 1, end),
+        LinkEnd::Performed(end) => tell_program(err, PROGRAM, exit::FAILED, end),
     }
 }
 

@@ -4,12 +4,15 @@ use Rattle.std.specs.Prelude.{Option, None, Some, codes, decimal}
 use Rattle.alma_plan.specs.Plan.{line_of}
 use Rattle.alma_plan.specs.Refusals.{with_number}
 
--- of a bad word
-pub word_parts : (program front number end : List ℕ) (word : ℕ) → front ≡ codes ": bad word " → number ≡ decimal word → end ≡ codes "\n"
-    → program ++ (front ++ (number ++ (end ++ []))) ≡ line_of program (codes "bad word " ++ decimal word)
-word_parts program front number end word f n e =
-    ap (λ x. program ++ (x ++ (number ++ (end ++ [])))) f ∙ ap (λ x. program ++ (codes ": bad word " ++ (x ++ (end ++ [])))) n
-    ∙ ap (λ x. program ++ (codes ": bad word " ++ (decimal word ++ (x ++ [])))) e
+-- of a line that ends in a number
+pub number_parts : (program front text digits end : List ℕ) (number : ℕ) → front ≡ codes ": " → digits ≡ decimal number
+    → end ≡ codes "\n"
+    → program ++ (front ++ (text ++ (digits ++ (end ++ [])))) ≡ line_of program (text ++ decimal number)
+number_parts program front text digits end number f n e =
+    ap (λ x. program ++ (x ++ (text ++ (digits ++ (end ++ []))))) f
+    ∙ ap (λ x. program ++ (codes ": " ++ (text ++ (x ++ (end ++ []))))) n
+    ∙ ap (λ x. program ++ (codes ": " ++ (text ++ (decimal number ++ (x ++ []))))) e
+    ∙ ap (λ x. program ++ (codes ": " ++ x)) (sym (append_assoc text (decimal number) (codes "\n")))
 
 -- of a fault of an object without a number
 pub numberless_parts : (program front name end fault : List ℕ) (number : Option ℕ) → number ≡ None → front ≡ codes ": object "

@@ -30,14 +30,6 @@ known_parts program front name middle number end (suc k) some f m d e =
     ∙ ap (λ x. program ++ (codes ": fault " ++ (name ++ x))) (sym (append_assoc (codes " line ") (decimal (suc k)) (codes "\n")))
     ∙ ap (λ x. program ++ (codes ": fault " ++ x)) (sym (append_assoc name (codes " line " ++ decimal (suc k)) (codes "\n")))
 
--- of a size
-pub size_parts : (program front number end : List ℕ) (size : ℕ) → front ≡ codes ": too much code " → number ≡ decimal size
-    → end ≡ codes "\n"
-    → program ++ (front ++ (number ++ (end ++ []))) ≡ line_of program (codes "too much code " ++ decimal size)
-size_parts program front number end size f n e =
-    ap (λ x. program ++ (x ++ (number ++ (end ++ [])))) f ∙ ap (λ x. program ++ (codes ": too much code " ++ (x ++ (end ++ [])))) n
-    ∙ ap (λ x. program ++ (codes ": too much code " ++ (decimal size ++ (x ++ [])))) e
-
 -- of a refusal
 pub refusal_parts : (file colon line column blank name end : List ℕ) (place : Place) → colon ≡ codes ":" → line ≡ decimal place.line
     → column ≡ decimal place.column → blank ≡ codes ": " → end ≡ codes "\n"

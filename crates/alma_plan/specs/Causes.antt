@@ -1,6 +1,7 @@
 -- When a fault is answered, that none is hidden, and what out, err and the files became by then.
 use Rattle.std.specs.Prelude.{◌≡◌, ◌≢◌, ◌⊎◌, List, ℕ, [], Some}
 use Rattle.std.specs.Io.KnownBytes.{Appends}
+use Rattle.alma_driver_words.specs.Exit as exit
 use Rattle.alma_io.specs.Causes.{Rose}
 use Rattle.alma_io.specs.Outside.{FilesStay, Outside, StoredFile, OthersStay, Become, WriteFailed, WritesGrew, ReadsGrew, Gains}
 use Rattle.alma_plan.specs.Plan.{Ending, Due, Plan, Sense, Reading, Asks, MayLack, Lacks, Comes}
@@ -43,12 +44,12 @@ pub record Causes {V L : Type 0} (sense : Sense V L) (program : List ℕ) (plan 
   where
     -- a read fault comes only where the fetch of a file failed that the plan may ask for, where a read of the input failed that what
     -- may come reads, or where a file that it may ask for is told to be missing
-    pub read_fault_is : status ≡ 6 → FetchFailed sense plan before after
+    pub read_fault_is : status ≡ exit.read_fault → FetchFailed sense plan before after
         ⊎ (InputFailed (MayCome sense program plan before) before after ⊎ MayLack sense before.files.told plan)
     -- at a read fault nothing was written to out
-    pub nothing : status ≡ 6 → Appends before.out.written after.out.written []
+    pub nothing : status ≡ exit.read_fault → Appends before.out.written after.out.written []
     -- a write fault comes only where a write or a store failed
-    pub write_fault_is : status ≡ 7 → WriteFailed before after
+    pub write_fault_is : status ≡ exit.write_fault → WriteFailed before after
     -- whatever the status, out gained no more than what is due
     pub prefix : GainsPrefix (MayCome sense program plan before) before.out after.out
     -- err gained the text of the status; or it failed within the text of the status before, and that of a write fault is answered
@@ -57,17 +58,18 @@ pub record Causes {V L : Type 0} (sense : Sense V L) (program : List ℕ) (plan 
     pub files : FilesStay before.files after.files
         ⊎ ((name : List ℕ) × IsStoredName (MayCome sense program plan before) name × OthersStay before.files after.files name)
     -- at a read fault and at want of memory all of them stay
-    pub files_stay : (status ≡ 6) ⊎ (status ≡ 8) → FilesStay before.files after.files
+    pub files_stay : (status ≡ exit.read_fault) ⊎ (status ≡ exit.no_memory) → FilesStay before.files after.files
     -- but for read faults, write faults and want of memory, status, out, err, files and the input are all that is due
-    pub whole : (status ≢ 6) → (status ≢ 7) → (status ≢ 8)
+    pub whole : (status ≢ exit.read_fault) → (status ≢ exit.write_fault) → (status ≢ exit.no_memory)
         → (reading : Reading) × (due : Due) × MayCome sense program plan before reading due × (status ≡ due.end.status)
         × Gains before.out after.out due.out × Gains before.err after.err due.end.text
         × Become before.files after.files due.stored × Takes reading before.input after.input
     -- a failed write or store is not hidden: write fault, or want of memory
-    pub writes_shown : WritesGrew before after → (status ≡ 7) ⊎ (status ≡ 8)
+    pub writes_shown : WritesGrew before after → (status ≡ exit.write_fault) ⊎ (status ≡ exit.no_memory)
     -- nor a failed fetch or read, where no write failed: read fault, or want of memory
-    pub reads_shown : ReadsGrew before after → WriteFailed before after ⊎ ((status ≡ 6) ⊎ (status ≡ 8))
+    pub reads_shown : ReadsGrew before after → WriteFailed before after ⊎ ((status ≡ exit.read_fault) ⊎ (status ≡ exit.no_memory))
     -- the input stays but where what may come reads it
     pub input : (after.input ≡ before.input) ⊎ MayRead (MayCome sense program plan before)
     -- nor is it hidden that a file is missing
-    pub absence_shown : Lacks sense before.files.told plan → (status ≡ 6) ⊎ ((status ≡ 7) ⊎ (status ≡ 8))
+    pub absence_shown : Lacks sense before.files.told plan → (status ≡ exit.read_fault)
+        ⊎ ((status ≡ exit.write_fault) ⊎ (status ≡ exit.no_memory))

@@ -2,6 +2,7 @@
 use Rattle.std.specs.Prelude.{◌≡◌, ◌⊎◌, ◌+◌, ◌≤◌, List, ℕ, [], length, None, Some}
 use Rattle.std.specs.Io.KnownBytes.{Appends, Consumes, IsAtEnd}
 use Rattle.alma_base.specs.Limits.{input_limit}
+use Rattle.alma_driver_words.specs.Exit as exit
 use Rattle.alma_io.specs.Fronts.{AppendsFront}
 use Rattle.alma_io.specs.Sides.{SinkSide, SourceSide, FilesSide}
 use Rattle.alma_io.specs.Whole.{LosesAtMost, LosesBytes}
@@ -91,7 +92,7 @@ Follows sense program plan files files' input input' out out' end =
 -- fault.
 pub data Reports (end : Ending) (old new : SinkSide) (status : ℕ) : Type 0 where
   said : status ≡ end.status → Gains old new end.text → Reports end old new status
-  unsaid : status ≡ 7 → FailsWithin old new end.text → Reports end old new status
+  unsaid : status ≡ exit.write_fault → FailsWithin old new end.text → Reports end old new status
 
 -- How a call in the name of a program, with this plan, may change what is outside, and which status it may answer.
 pub record Answers {V L : Type 0} (sense : Sense V L) (program : List ℕ) (plan : Plan V L) (before after : Outside) (status : ℕ) : Type 0

@@ -1,6 +1,7 @@
 -- The ends of runs and objects of programs, as they are due.
 use Rattle.std.specs.Prelude.{ℕ, List, ◌++◌, codes, decimal}
 use Rattle.alma_code.specs.declared.step.End.TheVariants as ended
+use Rattle.alma_driver_words.specs.Exit as exit
 use Rattle.alma_machine.specs.declared.machine.RunEnd.{RunEnd}
 use Rattle.alma_machine.specs.declared.machine.RunEnd.TheVariants as run
 use Rattle.alma_plan.specs.declared.stop.Stop.TheVariants as stop
@@ -19,8 +20,8 @@ use Rattle.alma_unit.specs.declared.unit.UnitError.TheVariants as unit
 abbrev pub program_end : (program : List ℕ) → (failed : Ending) → ProgramEnd → Ending
 program_end program failed (Ended end line) = end_of program failed end line
 program_end program failed Stored = success
-program_end program failed StepsOut = tells program 5 (codes "steps out")
-program_end program failed (TooMuchCode size) = tells program 11 (codes "too much code " ++ decimal size)
+program_end program failed StepsOut = tells program exit.steps_out (codes "steps out")
+program_end program failed (TooMuchCode size) = tells program exit.too_much_code (codes "too much code " ++ decimal size)
 program_end program failed (Stopped stop) = stop_end program stop
 
 -- the end at a file that is to hold a source

@@ -1,5 +1,6 @@
 -- What is due from a run of a program, in words of its meaning.
 use Rattle.std.specs.Prelude.{◌≡◌, ℕ, List, codes, None}
+use Rattle.alma_driver_words.specs.Exit as exit
 use Rattle.alma_ir.specs.Tree.{Program}
 use Rattle.alma_mean.specs.Events.{End, Succeeded, Failed, Faulted, CutOff}
 use Rattle.alma_plan.specs.Plan.{Due, Ending, success, tells}
@@ -12,8 +13,8 @@ module _ (program : List ℕ) (failed : Ending) where
   abbrev pub meant_ending : End → Ending
   meant_ending Succeeded = success
   meant_ending Failed = failed
-  meant_ending (Faulted fault line) = tells program 4 (fault_words fault line)
-  meant_ending CutOff = tells program 5 (codes "steps out")
+  meant_ending (Faulted fault line) = tells program exit.faulted (fault_words fault line)
+  meant_ending CutOff = tells program exit.steps_out (codes "steps out")
 
   -- What is due is what so many steps of a program show on an input: the prints and the end of its meaning, or a front of them.
   pub record IsMeant (p : Program) (input : List ℕ) (steps : ℕ) (due : Due) : Type 0 where

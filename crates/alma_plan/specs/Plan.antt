@@ -1,6 +1,7 @@
 -- Plans: what a program reads, in which order, and what it comes to. A program's plan is a function of its words.
 use Rattle.std.specs.Prelude.{◌≡◌, ◌≤◌, ◌⊎◌, List, ℕ, [], ◌++◌, codes, decimal, length, Option, None}
 use Rattle.alma_base.specs.Limits.{input_limit}
+use Rattle.alma_driver_words.specs.Exit as exit
 use Rattle.alma_io.specs.Files.{Told, Missing, Has, MayHave, MayPass}
 use Rattle.alma_io.specs.Outside.{StoredFile, MayBeLeft}
 use Rattle.alma_io.specs.Whole.{MayHaveMore}
@@ -32,23 +33,23 @@ tells program status text = ending_of status (line_of program text)
 
 -- the ends that every program may come to; a bad word is told by its number, from 1
 abbrev pub bad_word : (program : List ℕ) → (word : ℕ) → Ending
-bad_word program word = tells program 2 (codes "bad word " ++ decimal word)
+bad_word program word = tells program exit.bad_word (codes "bad word " ++ decimal word)
 
 abbrev pub read_fault : (program : List ℕ) → Ending
-read_fault program = tells program 6 (codes "read fault")
+read_fault program = tells program exit.read_fault (codes "read fault")
 
 abbrev pub write_fault : (program : List ℕ) → Ending
-write_fault program = tells program 7 (codes "write fault")
+write_fault program = tells program exit.write_fault (codes "write fault")
 
 abbrev pub no_memory : (program : List ℕ) → Ending
-no_memory program = tells program 8 (codes "out of memory")
+no_memory program = tells program exit.no_memory (codes "out of memory")
 
 abbrev pub too_long : (program : List ℕ) → Ending
-too_long program = tells program 10 (codes "too long")
+too_long program = tells program exit.too_long (codes "too long")
 
 -- success, without a word on err
 abbrev pub success : Ending
-success = ending_of 0 []
+success = ending_of exit.succeeded []
 
 -- an end without a print
 abbrev pub silent : Ending → Due

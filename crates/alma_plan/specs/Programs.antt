@@ -9,6 +9,7 @@ use Rattle.alma_code.specs.declared.step.End.TheVariants as ended
 use Rattle.alma_code.specs.Lines.{known_line}
 use Rattle.alma_code.specs.Machine.{Mode, Going, Failing, Ended, Stuck}
 use Rattle.alma_code.specs.Plain.{PlainCode}
+use Rattle.alma_driver_words.specs.Exit as exit
 use Rattle.alma_ir.specs.Tree.{Program}
 use Rattle.alma_lower_implements.specs.Implements.{state_after, printed_by, line_in}
 use Rattle.alma_lower_sound.specs.Reads.{program_reads}
@@ -47,14 +48,14 @@ module _ (program : List ℕ) (failed : Ending) where
   abbrev pub end_of : End → (line : ℕ) → Ending
   end_of ended.Succeeded line = success
   end_of ended.Failed line = failed
-  end_of (ended.Fault fault) line = tells program 4 (fault_words fault line)
+  end_of (ended.Fault fault) line = tells program exit.faulted (fault_words fault line)
 
   -- that of one which is left in this mode
   abbrev pub mode_end : Mode → (line : ℕ) → Ending
   mode_end (Ended end) line = end_of end line
-  mode_end Going line = tells program 5 (codes "steps out")
-  mode_end Failing line = tells program 5 (codes "steps out")
-  mode_end Stuck line = tells program 5 (codes "steps out")
+  mode_end Going line = tells program exit.steps_out (codes "steps out")
+  mode_end Failing line = tells program exit.steps_out (codes "steps out")
+  mode_end Stuck line = tells program exit.steps_out (codes "steps out")
 
   -- what a run of code on an input for so many steps comes to
   abbrev pub code_due : PlainCode → (input : List ℕ) → (steps : ℕ) → Due
@@ -83,7 +84,7 @@ module _ (program : List ℕ) (failed : Ending) where
 
 -- the end of a program that is too large
 abbrev pub too_much_code : (program : List ℕ) → Program → Ending
-too_much_code program p = tells program 11 (codes "too much code " ++ decimal (size_of p))
+too_much_code program p = tells program exit.too_much_code (codes "too much code " ++ decimal (size_of p))
 
 -- a program within its limit of size goes on, and another is refused with its size
 abbrev pub unless_large : (is_large : Bool) → (program : List ℕ) → Program → Plan Verdict Last → Plan Verdict Last
@@ -108,7 +109,7 @@ store_plan program p object = within_size program p (Ends (Stores p object))
 
 -- a file is refused for the fault of its source
 abbrev pub refuse_source : (file : List ℕ) → SourceFault → Place → Ending
-refuse_source file fault place = ending_of 3 (refusal_text file fault place)
+refuse_source file fault place = ending_of exit.refused (refusal_text file fault place)
 
 -- the source of a file is a program, and it goes on; or it is refused
 abbrev pub accept_source : (file : List ℕ) → (next : Program → Plan Verdict Last) → Verdict → Plan Verdict Last

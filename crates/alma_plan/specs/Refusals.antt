@@ -1,6 +1,7 @@
 -- What stops a call, and why one is refused: statuses and texts.
 use Rattle.std.specs.Prelude.{List, ℕ, ◌++◌, codes, decimal, Option, None, Some}
 use Rattle.alma_code.specs.declared.step.VerifyFault.{VerifyFault}
+use Rattle.alma_driver_words.specs.Exit as exit
 use Rattle.alma_io.specs.declared.files.Fetch.{Fetch}
 use Rattle.alma_io.specs.declared.files.Fetch.TheVariants as fetch
 use Rattle.alma_io.specs.declared.whole.ReadAll.{ReadAll}
@@ -16,10 +17,10 @@ use Rattle.alma_plan.specs.declared.stop.Stop.TheVariants.{Read, Write, Memory, 
 -- ---- what stops any call
 
 abbrev pub stop_status : Stop → ℕ
-stop_status Read = 6
-stop_status Write = 7
-stop_status Memory = 8
-stop_status TooLong = 10
+stop_status Read = exit.read_fault
+stop_status Write = exit.write_fault
+stop_status Memory = exit.no_memory
+stop_status TooLong = exit.too_long
 
 abbrev pub stop_text : Stop → List ℕ
 stop_text Read = codes "read fault"
@@ -63,6 +64,6 @@ rule_fault_text fault = codes "object Rule " ++ (decimal fault.rule ++ (codes " 
 -- the end of a program that refuses
 abbrev pub refusal_end : (program : List ℕ) → Refusal → Ending
 refusal_end program (BadWord word) = bad_word program word
-refusal_end program (BadObject fault) = tells program 9 (object_fault_text fault)
-refusal_end program (BadCode fault) = tells program 9 (rule_fault_text fault)
+refusal_end program (BadObject fault) = tells program exit.bad_object (object_fault_text fault)
+refusal_end program (BadCode fault) = tells program exit.bad_object (rule_fault_text fault)
 refusal_end program (Stopped stop) = stop_end program stop

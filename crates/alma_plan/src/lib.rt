@@ -16,7 +16,7 @@ mod writing;
 
 pub use end::ProgramEnd;
 pub use open::open_code;
-pub use refusal::{Refusal, refuse, refuse_with};
+pub use refusal::{Refusal, refuse, refuse_number, refuse_with};
 pub use run::run_program;
 pub use source::{FileStop, tell_file};
 pub use stop::Stop;

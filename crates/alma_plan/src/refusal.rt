@@ -1,6 +1,7 @@
 // Why calls are refused, in the words that all programs share.
-ghost use Rattle.std.specs.Prelude.{◌++◌, codes};
-ghost use Rattle.alma_plan.specs.Plan.{bad_word, tells};
+ghost use Rattle.std.specs.Prelude.{◌++◌, codes, decimal};
+ghost use Rattle.alma_driver_words.specs.Exit as exit;
+ghost use Rattle.alma_plan.specs.Plan.{tells};
 ghost use Rattle.alma_plan.specs.Course.{Reports};
 ghost use Rattle.alma_plan.specs.Refusals.{with_number, object_fault_text, rule_fault_text, refusal_end};
 
@@ -8,6 +9,7 @@ use crate::stop::Stop;
 use crate::writing::report;
 use alma_base::Status;
 use alma_code::VerifyFault;
+use alma_driver_words::exit;
 use alma_io::Sink;
 use alma_object_format::ObjectFault;
 use itoa::Buffer;
@@ -25,17 +27,6 @@ pub enum Refusal {
     Stopped(Stop),
 }
 
-// Says that a word cannot stand where it is.
-fn refuse_word<E: Sink>(err: &mut E, program: &[u8], word: usize) -> Status
-    ensures { Reports (bad_word program.now word) (E.side err.old) (E.side err.new) result.0 }
-{
-    let mut digits = Buffer::new();
-    let front = b": bad word ".as_slice();
-    let number = digits.format(word).as_bytes();
-    let end = b"\n".as_slice();
-    report(err, 2, &[program, front, number, end])
-}
-
 // Says that bytes are no object, by the name of the fault and its number, where it has one.
 fn refuse_named<'t, E: Sink>(
     err: &mut E,
@@ -43,19 +34,20 @@ fn refuse_named<'t, E: Sink>(
     name: &'t [u8],
     number: Option<usize>,
 ) -> Status
-    ensures { Reports (tells program.now 9 (codes "object " ++ with_number name.now number))
+    ensures { Reports (tells program.now exit.bad_object
+        (codes "object " ++ with_number name.now number))
         (E.side err.old) (E.side err.new) result.0 }
 {
     let front = b": object ".as_slice();
     let end = b"\n".as_slice();
     match number {
-        None => report(err, 9, &[program, front, name, end]),
+        None => report(err, exit::BAD_OBJECT, &[program, front, name, end]),
         Some(number) => {
             let mut digits = Buffer::new();
             let number = digits.format(number).as_bytes();
             report(
                 err,
-                9,
+                exit::BAD_OBJECT,
                 &[program, front, name, b" ".as_slice(), number, end],
             )
         }
@@ -64,7 +56,7 @@ fn refuse_named<'t, E: Sink>(
 
 // Says that bytes are no object.
 fn refuse_object<E: Sink>(err: &mut E, program: &[u8], fault: ObjectFault) -> Status
-    ensures { Reports (tells program.now 9 (object_fault_text fault)) (E.side err.old)
+    ensures { Reports (tells program.now exit.bad_object (object_fault_text fault)) (E.side err.old)
         (E.side err.new) result.0 }
 {
     refuse_named(err, program, fault.name(), fault.number())
@@ -72,7 +64,7 @@ fn refuse_object<E: Sink>(err: &mut E, program: &[u8], fault: ObjectFault) -> St
 
 // Says that code is not sound.
 fn refuse_code<E: Sink>(err: &mut E, program: &[u8], fault: VerifyFault) -> Status
-    ensures { Reports (tells program.now 9 (rule_fault_text fault)) (E.side err.old)
+    ensures { Reports (tells program.now exit.bad_object (rule_fault_text fault)) (E.side err.old)
         (E.side err.new) result.0 }
 {
     let mut rule_digits = Buffer::new();
@@ -82,7 +74,11 @@ fn refuse_code<E: Sink>(err: &mut E, program: &[u8], fault: VerifyFault) -> Stat
     let middle = b" ".as_slice();
     let at = at_digits.format(fault.at).as_bytes();
     let end = b"\n".as_slice();
-    report(err, 9, &[program, front, rule, middle, at, end])
+    report(
+        err,
+        exit::BAD_OBJECT,
+        &[program, front, rule, middle, at, end],
+    )
 }
 
 /// Says a line on err in the name of a program: this status, or that of a write fault where err
@@ -101,13 +97,34 @@ pub fn refuse_with<'t, E: Sink>(
     report(err, status, &[program, front, text, end])
 }
 
+/// Says a line on err, in the name of a program, that ends in a number: this status, or that of a
+/// write fault where err fails.
+pub fn refuse_number<'t, E: Sink>(
+    err: &mut E,
+    program: &'t [u8],
+    status: u8,
+    text: &'t [u8],
+    number: u64,
+) -> Status
+    ensures { Reports (tells program.now status (text.now ++ decimal number)) (E.side err.old)
+        (E.side err.new) result.0 }
+{
+    let mut digits = Buffer::new();
+    let front = b": ".as_slice();
+    let digits = digits.format(number).as_bytes();
+    let end = b"\n".as_slice();
+    report(err, status, &[program, front, text, digits, end])
+}
+
 /// Says on err, in the name of a program, why a call is refused: the status of that, or that of a
 /// write fault where err fails.
 pub fn refuse<E: Sink>(err: &mut E, program: &[u8], refusal: Refusal) -> Status
     ensures { Reports (refusal_end program.now refusal) (E.side err.old) (E.side err.new) result.0 }
 {
     match refusal {
-        Refusal::BadWord(word) => refuse_word(err, program, word),
+        Refusal::BadWord(word) => {
+            refuse_number(err, program, exit::BAD_WORD, b"bad word ", word as u64)
+        }
         Refusal::BadObject(fault) => refuse_object(err, program, fault),
         Refusal::BadCode(fault) => refuse_code(err, program, fault),
         Refusal::Stopped(stop) => refuse_with(err, program, stop.status(), stop.text()),

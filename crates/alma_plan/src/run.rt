@@ -1,9 +1,10 @@
 // The run of a program.
-ghost use Rattle.std.specs.Prelude.{◌≡◌, ◌≤◌, ◌^◌, ℕ, List, length};
+ghost use Rattle.std.specs.Prelude.{◌≡◌, ◌≤◌, ℕ, List, length};
 ghost use Rattle.alma_base.specs.Limits.{input_limit};
 ghost use Rattle.alma_code.specs.Plain.{code_of};
 ghost use Rattle.alma_code.specs.Records.{KeepsCounts, KeepsRecords, KeepsVersion};
 ghost use Rattle.alma_code.specs.Rules.{IsSound};
+ghost use Rattle.alma_driver_words.specs.Words.{greatest_steps};
 ghost use Rattle.alma_io.specs.Sides.{FilesSide};
 ghost use Rattle.alma_ir.specs.Checked.{IsChecked};
 ghost use Rattle.alma_ir.specs.Tree as tree;
@@ -50,7 +51,7 @@ fn run_on<O: Sink>(
     steps: u64,
     out: &mut O,
 ) -> ProgramEnd
-    requires few { steps ≤ 2 ^ 62 }
+    requires few { steps ≤ greatest_steps }
     requires lawful { length input.now ≤ input_limit }
     ensures { (program : List ℕ) (failed : Ending) → Goes program
         (IsRun program failed (code_of_verified code.entry) input.now steps)
@@ -74,7 +75,7 @@ fn run_verified<I: Source, O: Sink>(
     steps: u64,
     out: &mut O,
 ) -> ProgramEnd
-    requires few { steps ≤ 2 ^ 62 }
+    requires few { steps ≤ greatest_steps }
     ensures { (p : tree.Program) → IsCodeFor p (code_of_verified code.entry)
         → (program : List ℕ) (failed : Ending) (files : FilesSide)
         → Follows (sense program failed) program (run_on_input (program_reads p) p steps)
@@ -102,7 +103,7 @@ fn run_code<I: Source, O: Sink>(
     requires version { KeepsVersion (code_of code.now) }
     requires counts { KeepsCounts (code_of code.now) }
     requires records { KeepsRecords (code_of code.now) }
-    requires few { steps ≤ 2 ^ 62 }
+    requires few { steps ≤ greatest_steps }
     ensures { (p : tree.Program) → IsCodeFor p (code_of code.now)
         → (program : List ℕ) (failed : Ending) (files : FilesSide)
         → Follows (sense program failed) program (run_on_input (program_reads p) p steps)
@@ -128,7 +129,7 @@ pub fn run_program<I: Source, O: Sink>(
     out: &mut O,
 ) -> ProgramEnd
     requires checked { IsChecked (program_of program.now) }
-    requires few { steps ≤ 2 ^ 62 }
+    requires few { steps ≤ greatest_steps }
     ensures { (name : List ℕ) (failed : Ending) (files : FilesSide)
         → Follows (sense name failed) name (run_plan name (program_of program.now) steps)
         files files (I.side input.old) (I.side input.new) (O.side out.old) (O.side out.new)

@@ -3,6 +3,7 @@ ghost use Rattle.std.specs.Prelude.{◌≡◌};
 ghost use Rattle.alma_plan.specs.Refusals.{stop_status, stop_text, fetch_stop, read_stop};
 
 use alma_base::NoMemory;
+use alma_driver_words::exit;
 use alma_io::{Fetch, ReadAll, WriteFault};
 
 /// What stops a call before its own end.
@@ -24,10 +25,10 @@ impl Stop {
         ensures { result ≡ stop_status self }
     {
         match self {
-            Stop::Read => 6,
-            Stop::Write => 7,
-            Stop::Memory => 8,
-            Stop::TooLong => 10,
+            Stop::Read => exit::READ_FAULT,
+            Stop::Write => exit::WRITE_FAULT,
+            Stop::Memory => exit::NO_MEMORY,
+            Stop::TooLong => exit::TOO_LONG,
         }
     }
 

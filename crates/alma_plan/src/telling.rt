@@ -1,5 +1,6 @@
 // What is said on err of the end of a program, and of a file that is refused.
-ghost use Rattle.std.specs.Prelude.{[], ◌++◌, codes, decimal};
+ghost use Rattle.std.specs.Prelude.{[], codes, decimal};
+ghost use Rattle.alma_driver_words.specs.Exit as exit;
 ghost use Rattle.alma_plan.specs.Course.{Reports};
 ghost use Rattle.alma_plan.specs.Plan.{ending_of, tells};
 ghost use Rattle.alma_plan.specs.Ends.{program_end};
@@ -7,33 +8,38 @@ ghost use Rattle.alma_plan.specs.Programs.{fault_words, named_words, refuse_sour
 ghost use Rattle.alma_source.specs.Texts.{refusal_line};
 
 use crate::end::ProgramEnd;
-use crate::refusal::{Refusal, refuse, refuse_with};
+use crate::refusal::{Refusal, refuse, refuse_number, refuse_with};
 use crate::writing::report;
 use alma_base::{Place, RunFault, Status};
 use alma_code::End;
+use alma_driver_words::exit;
 use alma_io::Sink;
 use alma_source::SourceFault;
 use itoa::Buffer;
 
 // Says that a run stopped in a fault of this name, with its line where that is known.
 fn tell_named<'t, E: Sink>(err: &mut E, program: &'t [u8], name: &'t [u8], line: u32) -> Status
-    ensures { Reports (tells program.now 4 (named_words name.now line)) (E.side err.old)
+    ensures { Reports (tells program.now exit.faulted (named_words name.now line)) (E.side err.old)
         (E.side err.new) result.0 }
 {
     let front = b": fault ".as_slice();
     let end = b"\n".as_slice();
     if line == 0 {
-        return report(err, 4, &[program, front, name, end]);
+        return report(err, exit::FAULTED, &[program, front, name, end]);
     }
     let mut digits = Buffer::new();
     let middle = b" line ".as_slice();
     let number = digits.format(line).as_bytes();
-    report(err, 4, &[program, front, name, middle, number, end])
+    report(
+        err,
+        exit::FAULTED,
+        &[program, front, name, middle, number, end],
+    )
 }
 
 // Says that a run stopped in a fault.
 fn tell_fault<E: Sink>(err: &mut E, program: &[u8], fault: RunFault, line: u32) -> Status
-    ensures { Reports (tells program.now 4 (fault_words fault line)) (E.side err.old)
+    ensures { Reports (tells program.now exit.faulted (fault_words fault line)) (E.side err.old)
         (E.side err.new) result.0 }
 {
     tell_named(err, program, fault.text().as_bytes(), line)
@@ -41,22 +47,10 @@ fn tell_fault<E: Sink>(err: &mut E, program: &[u8], fault: RunFault, line: u32) 
 
 // Says that all steps were made.
 fn tell_steps_out<E: Sink>(err: &mut E, program: &[u8]) -> Status
-    ensures { Reports (tells program.now 5 (codes "steps out")) (E.side err.old) (E.side err.new)
-        result.0 }
+    ensures { Reports (tells program.now exit.steps_out (codes "steps out")) (E.side err.old)
+        (E.side err.new) result.0 }
 {
-    refuse_with(err, program, 5, b"steps out")
-}
-
-// Says the size of a program that is too large.
-fn tell_size<E: Sink>(err: &mut E, program: &[u8], size: u64) -> Status
-    ensures { Reports (tells program.now 11 (codes "too much code " ++ decimal size))
-        (E.side err.old) (E.side err.new) result.0 }
-{
-    let mut digits = Buffer::new();
-    let front = b": too much code ".as_slice();
-    let number = digits.format(size).as_bytes();
-    let end = b"\n".as_slice();
-    report(err, 11, &[program, front, number, end])
+    refuse_with(err, program, exit::STEPS_OUT, b"steps out")
 }
 
 /// Says on err, in the name of a program, how the run of another ended, where one that failed ends
@@ -66,11 +60,13 @@ pub fn tell_program<E: Sink>(err: &mut E, program: &[u8], failed: u8, end: Progr
         (E.side err.new) result.0 }
 {
     match end {
-        ProgramEnd::Ended(End::Succeeded, _) | ProgramEnd::Stored => Status(0),
+        ProgramEnd::Ended(End::Succeeded, _) | ProgramEnd::Stored => Status(exit::SUCCEEDED),
         ProgramEnd::Ended(End::Failed, _) => Status(failed),
         ProgramEnd::Ended(End::Fault(fault), line) => tell_fault(err, program, fault, line),
         ProgramEnd::StepsOut => tell_steps_out(err, program),
-        ProgramEnd::TooMuchCode(size) => tell_size(err, program, size),
+        ProgramEnd::TooMuchCode(size) => {
+            refuse_number(err, program, exit::TOO_MUCH_CODE, b"too much code ", size)
+        }
         ProgramEnd::Stopped(stop) => refuse(err, program, Refusal::Stopped(stop)),
     }
 }
@@ -82,7 +78,7 @@ fn tell_refusal_named<'t, E: Sink>(
     name: &'t [u8],
     place: Place,
 ) -> Status
-    ensures { Reports (ending_of 3 (refusal_line file.now (decimal place.line)
+    ensures { Reports (ending_of exit.refused (refusal_line file.now (decimal place.line)
         (decimal place.column) name.now)) (E.side err.old) (E.side err.new) result.0 }
 {
     let mut line_digits = Buffer::new();
@@ -94,13 +90,13 @@ fn tell_refusal_named<'t, E: Sink>(
     let end = b"\n".as_slice();
     report(
         err,
-        3,
+        exit::REFUSED,
         &[file, colon, line, colon, column, blank, name, end],
     )
 }
 
-/// Says on err for which fault a file is refused, and where: status 3, or that of a write fault
-/// where err fails.
+/// Says on err for which fault a file is refused, and where: the status of that, or that of a write
+/// fault where err fails.
 pub fn tell_refusal<E: Sink>(err: &mut E, file: &[u8], fault: SourceFault, place: Place) -> Status
     ensures { Reports (refuse_source file.now fault place)
         (E.side err.old) (E.side err.new) result.0 }

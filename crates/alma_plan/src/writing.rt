@@ -4,6 +4,7 @@ ghost use Rattle.alma_plan.specs.Plan.{ending_of};
 ghost use Rattle.alma_plan.specs.Course.{Reports};
 
 use alma_base::Status;
+use alma_driver_words::exit;
 use alma_io::{Sink, write_parts};
 
 /// The status of a call with this end, where its text, in parts, was written to err, or that of a
@@ -14,6 +15,6 @@ pub fn report<E: Sink>(err: &mut E, status: u8, text: &[&[u8]]) -> Status
 {
     match write_parts(err, text) {
         Ok(()) => Status(status),
-        Err(_) => Status(7),
+        Err(_) => Status(exit::WRITE_FAULT),
     }
 }

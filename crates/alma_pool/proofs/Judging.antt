@@ -1,5 +1,5 @@
 -- How a call goes by its plan when all files are there.
-use Rattle.std.proofs.Common.{◌≡◌, ◌+◌, ◌∙◌, ℕ, List, [], ◌∷◌, ◌++◌, length, refl, sym, ap, subst, inl, inr, arith}
+use Rattle.std.proofs.Common.{◌≡◌, ◌+◌, ℕ, List, [], ◌∷◌, ◌++◌, length, refl, sym, ap, subst, inl, inr, arith}
 use Rattle.std.proofs.lemmas.List.{length-map, length-append}
 use Rattle.std.specs.Prelude.{Option, None, Some, Result, Ok, Err, codes, decimal}
 use Rattle.alma_code.specs.Plain.{PlainCode}
@@ -8,20 +8,13 @@ use Rattle.alma_verify.specs.Bytes.{object_code}
 use Rattle.alma_verify.specs.Verified.{code_of_verified}
 use Rattle.alma_verify.specs.declared.verified.Verified.{Verified}
 use Rattle.alma_plan.specs.Course.{Follows, whole}
-use Rattle.alma_plan.specs.Plan.{Ending, line_of, silent, tells, plain}
+use Rattle.alma_plan.specs.Plan.{Ending, silent, tells, plain}
 use Rattle.alma_plan.specs.Refusals.{refusal_end}
 use Rattle.alma_plan.specs.declared.refusal.Refusal.{Refusal}
 use Rattle.alma_plan.proofs.Courses.{course_ends, course_starved, gains_none}
 use Rattle.alma_plan.specs.Objects.{object_refusal}
 use Rattle.alma_pool.specs.Due.{program, or_refused, opening, play_plan, judged_by, verify_plan, bad_turn_behind, turns_in}
 use Rattle.alma_pool.specs.Inner.{codes_of, IsRefused}
-
--- the parts of the text of a bad turn
-pub turn_parts : (front number end : List ℕ) (turn : ℕ) → front ≡ codes "alma_pool: bad turn " → number ≡ decimal turn → end ≡ codes "\n"
-    → front ++ (number ++ (end ++ [])) ≡ line_of program (codes "bad turn " ++ decimal turn)
-turn_parts front number end turn f n e =
-    ap (λ x. x ++ (number ++ (end ++ []))) f ∙ ap (λ x. codes "alma_pool: bad turn " ++ (x ++ (end ++ []))) n
-    ∙ ap (λ x. codes "alma_pool: bad turn " ++ (decimal turn ++ (x ++ []))) e
 
 -- as many codes as objects
 opened_ok : (o : Option Ending) (rest : Result (List PlainCode) Ending) (all : List PlainCode) → or_refused o rest ≡ Ok all → rest ≡ Ok all

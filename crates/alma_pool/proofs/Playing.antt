@@ -1,5 +1,5 @@
 -- All turns of a file.
-use Rattle.std.proofs.Common.{◌≡◌, ◌<◌, ◌≤◌, ◌+◌, ◌-◌, ◌^◌, ◌∙◌, ℕ, zero, suc, List, [], ◌∷◌, ◌++◌, length, get_or, take, drop, refl, sym}
+use Rattle.std.proofs.Common.{◌≡◌, ◌<◌, ◌≤◌, ◌+◌, ◌-◌, ◌∙◌, ℕ, zero, suc, List, [], ◌∷◌, ◌++◌, length, get_or, take, drop, refl, sym}
 use Rattle.std.proofs.Common.{ap, subst, arith}
 use Rattle.std.proofs.lemmas.Bool.{and_parts, leb-true, ltb-true, eq-eqb, ne_eqb}
 use Rattle.std.proofs.lemmas.List.{get_or-set_same, length-set, take_more, drop_more, drop_all, append-nil, map-append, length-map}
@@ -9,6 +9,7 @@ use Rattle.std.specs.Prelude.{Bool, true, false, ◌&&◌, ◌||◌, leb, ltb, c
 use Rattle.alma_code.specs.Plain.{PlainCode}
 use Rattle.alma_verify.specs.Verified.{code_of_verified}
 use Rattle.alma_verify.specs.declared.verified.Verified.{Verified}
+use Rattle.alma_driver_words.specs.Words.{greatest_steps}
 use Rattle.alma_pool.specs.Due.{unless, is_turn, bad_turn_behind, turn_in, turns_in, turns_limit}
 use Rattle.alma_pool.specs.Inner.{codes_of, players_at_start}
 use Rattle.alma_pool.specs.Pool.{PlayerState, PoolView, player_at_start, take_turn, no_program, program_at, after_turn, after_turns}
@@ -130,7 +131,7 @@ few_still programs most all = λ j d within. omega (arith, all j d within)
 -- so few are far below the greatest number
 pub few_enough : (programs : List PlayerState) (i count : ℕ) → i < count → count ≤ turns_limit
     → All (λ (p : PlayerState). p.state.steps ≤ i) programs
-    → All (λ (p : PlayerState). p.state.steps < 2 ^ 62) programs
+    → All (λ (p : PlayerState). p.state.steps < greatest_steps) programs
 few_enough programs i count within short all = λ j d there. omega (arith, within, short, all j d there)
 
 -- ---- the pool of a call

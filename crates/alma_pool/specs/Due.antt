@@ -11,6 +11,7 @@ use Rattle.alma_code.specs.Reads.{code_reads}
 use Rattle.alma_verify.specs.Bytes.{object_code}
 use Rattle.alma_plan.specs.Plan.{Due, Ending, Plan, Fetches, Reads, Ends, silent, prints, tells, bad_word}
 use Rattle.alma_plan.specs.Objects.{object_refusal}
+use Rattle.alma_driver_words.specs.Exit as exit
 use Rattle.alma_driver_words.specs.Words.{is_file_name}
 use Rattle.alma_pool.specs.Pool.{Lone, lone, turns_of}
 use Rattle.alma_pool.specs.Words.{greatest_programs}
@@ -105,7 +106,7 @@ play_plan (Err end) turns = Ends (silent end)
 
 -- all files are there
 abbrev pub judged_by : (bad_turn : Option ℕ) → (turns : List ℕ) → (objects : List (List ℕ)) → Plan ⊥ Due
-judged_by (Some turn) turns objects = Ends (silent (tells program 13 (codes "bad turn " ++ decimal turn)))
+judged_by (Some turn) turns objects = Ends (silent (tells program exit.own_refusal (codes "bad turn " ++ decimal turn)))
 judged_by None turns objects = play_plan (opening [] objects) (turns_in turns)
 
 abbrev pub verify_plan : (turns : List ℕ) → (objects : List (List ℕ)) → Plan ⊥ Due

@@ -1,9 +1,8 @@
 // The top call: from the words to the status.
-ghost use Rattle.std.specs.Prelude.{◌++◌, codes, decimal};
 ghost use Rattle.alma_plan.specs.Causes.{Causes};
 ghost use Rattle.alma_plan.specs.Course.{Answers, Reports};
 ghost use Rattle.alma_io.specs.Outside.{outside_of};
-ghost use Rattle.alma_plan.specs.Plan.{tells, plain};
+ghost use Rattle.alma_plan.specs.Plan.{plain};
 ghost use Rattle.alma_driver_words.specs.Words.{texts};
 ghost use Rattle.alma_pool.specs.Due.{program, pool_plan};
 ghost use Rattle.alma_pool.specs.Ends.{pool_end};
@@ -11,31 +10,24 @@ ghost use Rattle.alma_pool.specs.Ends.{pool_end};
 use crate::end::PoolEnd;
 use crate::serve::perform;
 use alma_base::Status;
+use alma_driver_words::exit;
 use alma_io::{Files, Sink, Source};
-use alma_plan::{refuse, report};
-use itoa::Buffer;
+use alma_plan::{refuse, refuse_number};
 use std::alloc::Global;
 
-// Says that a byte may not stand in the file of turns.
-fn refuse_turn<E: Sink>(err: &mut E, turn: usize) -> Status
-    ensures { Reports (tells program 13 (codes "bad turn " ++ decimal turn)) (E.side err.old)
-        (E.side err.new) result.0 }
-{
-    let mut digits = Buffer::new();
-    let front = b"alma_pool: bad turn ".as_slice();
-    let number = digits.format(turn).as_bytes();
-    let end = b"\n".as_slice();
-    report(err, 13, &[front, number, end])
-}
+/// The name of the program.
+const PROGRAM: &[u8] = b"alma_pool";
 
 // Says on err how the call ends: the status of that, or that of a write fault where err fails.
 fn tell<E: Sink>(err: &mut E, end: PoolEnd) -> Status
     ensures { Reports (pool_end end) (E.side err.old) (E.side err.new) result.0 }
 {
     match end {
-        PoolEnd::Shown => Status(0),
-        PoolEnd::BadTurn(turn) => refuse_turn(err, turn),
-        PoolEnd::Refused(refusal) => refuse(err, b"alma_pool", refusal),
+        PoolEnd::Shown => Status(exit::SUCCEEDED),
+        PoolEnd::BadTurn(turn) => {
+            refuse_number(err, PROGRAM, exit::OWN_REFUSAL, b"bad turn ", turn as u64)
+        }
+        PoolEnd::Refused(refusal) => refuse(err, PROGRAM, refusal),
     }
 }
 

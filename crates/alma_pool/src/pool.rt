@@ -1,6 +1,7 @@
 // The pool.
-ghost use Rattle.std.specs.Prelude.{◌≡◌, ◌<◌, ◌≤◌, ◌+◌, ◌^◌, [], ◌∷◌, ◌++◌, true, false, length, map, IfOk, OnOk, OnErr, IsTrue};
+ghost use Rattle.std.specs.Prelude.{◌≡◌, ◌<◌, ◌≤◌, ◌+◌, [], ◌∷◌, ◌++◌, true, false, length, map, IfOk, OnOk, OnErr, IsTrue};
 ghost use Rattle.alma_base.specs.Limits.{input_limit};
+ghost use Rattle.alma_driver_words.specs.Words.{greatest_steps};
 ghost use Rattle.alma_verify.specs.Verified.{code_of_verified};
 ghost use Rattle.alma_pool.specs.Pool.{OthersStay, ended_in, player_at_start, take_turn, program_at, after_turn};
 ghost use Rattle.alma_pool.specs.Ready.{IsReady, played_of};
@@ -23,7 +24,7 @@ struct Player<'b, 'i> {
 // Gives a program one step, and nothing where it has ended.
 fn play(player: &mut Player<'_, '_>) -> Result<(), NoMemory>
     requires ready { IsReady player.old.machine player.old.end }
-    requires few { player.old.machine.state.steps < 2 ^ 62 }
+    requires few { player.old.machine.state.steps < greatest_steps }
     ensures turn { OnOk result (played_of player.new ≡ take_turn (played_of player.old)) }
     ensures counted { OnOk result (player.new.machine.state.steps
         ≤ player.old.machine.state.steps + 1) }
@@ -116,7 +117,7 @@ impl<'b, 'i> Pool<'b, 'i> {
     pub fn turn(&mut self, k: usize) -> Result<(), NoMemory>
         requires whole { IsTrue self.old.whole }
         requires there { k < length self.old.programs }
-        requires few { (program_at self.old k).state.steps < 2 ^ 62 }
+        requires few { (program_at self.old k).state.steps < greatest_steps }
         ensures turn { OnOk result (self.new ≡ after_turn self.old k) }
         ensures counted { OnOk result ((program_at self.new k).state.steps
             ≤ (program_at self.old k).state.steps + 1) }

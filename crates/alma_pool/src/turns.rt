@@ -1,5 +1,6 @@
 // The file of turns.
-ghost use Rattle.std.specs.Prelude.{◌≡◌, ◌≤◌, ◌<◌, ◌+◌, ◌^◌, ℕ, All, None, true, length, OnOk, IsTrue};
+ghost use Rattle.std.specs.Prelude.{◌≡◌, ◌≤◌, ◌<◌, ◌+◌, ℕ, All, None, true, length, OnOk, IsTrue};
+ghost use Rattle.alma_driver_words.specs.Words.{greatest_steps};
 ghost use Rattle.alma_pool.specs.Due.{bad_turn_behind, is_turn as is_turn_of, turn_in, turns_in, turns_limit};
 ghost use Rattle.alma_pool.specs.Pool.{after_turns};
 
@@ -34,7 +35,7 @@ pub fn bad_turn(programs: usize, turns: &[u8]) -> Option<usize>
 fn take_turn(pool: &mut Pool<'_, '_>, byte: u8) -> Result<(), NoMemory>
     requires whole { IsTrue pool.old.whole }
     requires good { is_turn_of (length pool.old.programs) byte ≡ true }
-    requires few { All (λ p. p.state.steps < 2 ^ 62) pool.old.programs }
+    requires few { All (λ p. p.state.steps < greatest_steps) pool.old.programs }
     ensures turn { OnOk result (pool.new ≡ after_turns pool.old (turn_in byte)) }
     ensures few { OnOk result ((most : ℕ) → All (λ p. p.state.steps ≤ most) pool.old.programs
         → All (λ p. p.state.steps ≤ most + 1) pool.new.programs) }

@@ -1,33 +1,10 @@
-// Words of a line.
-ghost use Rattle.std.specs.Prelude.{◌≡◌, ◌∷◌, ◌++◌, [], decimal, OnOk};
+// Lines of words.
+ghost use Rattle.std.specs.Prelude.{◌≡◌, ◌∷◌, [], decimal, OnOk};
 ghost use Rattle.alma_code.specs.ListText.{text_line};
 
 use alma_base::NoMemory;
+use alma_code_list::{push_next, push_word};
 use itoa::Buffer;
-
-/// Appends a word.
-pub fn push_word(line: &mut Vec<u8>, word: &[u8]) -> Result<(), NoMemory>
-    ensures { OnOk result (line.new.items ≡ line.old.items ++ word.now) }
-{
-    line.extend_from_slice(word)?;
-    Ok(())
-}
-
-/// Appends a space and a word.
-pub fn push_next(line: &mut Vec<u8>, word: &[u8]) -> Result<(), NoMemory>
-    ensures { OnOk result (line.new.items ≡ line.old.items ++ 32 ∷ word.now) }
-{
-    line.push(b' ')?;
-    push_word(line, word)
-}
-
-/// Appends a space and a number in decimal.
-pub fn push_number(line: &mut Vec<u8>, number: u64) -> Result<(), NoMemory>
-    ensures { OnOk result (line.new.items ≡ line.old.items ++ 32 ∷ decimal number) }
-{
-    let mut digits = Buffer::new();
-    push_next(line, digits.format(number).as_bytes())
-}
 
 /// A line of two words.
 pub fn put_two(line: &mut Vec<u8>, first: &[u8], second: &[u8]) -> Result<(), NoMemory>

@@ -4,9 +4,9 @@ ghost use Rattle.alma_code.specs.ListText.{text_line};
 ghost use Rattle.alma_code.specs.TraceText.{cell_text, cells_text};
 ghost use Rattle.alma_trace.specs.Places.{value_at, watch_word, watch_words, comma, main_slots, IsWithin};
 
-use crate::line::{push_number, push_word};
 use alma_base::NoMemory;
 use alma_code::Cell;
+use alma_code_list::{push_number, push_word};
 use alma_memory::{MachineMemory, Memory};
 use itoa::Buffer;
 
