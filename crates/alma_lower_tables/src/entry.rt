@@ -51,6 +51,4 @@ pub fn add_text(alloc: Global, numbers: &mut Numbers, text: &[u8]) -> Result<(),
 /// i64 is.
 pub fn pass_number(value: i64)
     ensures integer { is_integer value ≡ true }
-{
-    let _number = value;
-}
+{}
