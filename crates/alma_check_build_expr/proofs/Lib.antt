@@ -1,4 +1,3 @@
 pub mod Steps
-mod Equations
 mod Numbers
 mod Chains

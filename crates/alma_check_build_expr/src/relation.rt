@@ -43,7 +43,6 @@ fn compare(alloc: Global, cmp: Cmp, left: Meaning, right: Meaning) -> Result<Mea
 }
 
 // An equation with exactly one designator binds it; one of two unifies them, or their cells.
-#[tactic(auto, using(crate::proofs::Equations::equations, std::proofs::lemmas::Grind::common_steps))]
 fn equation(
     alloc: Global,
     env: &Env,
@@ -54,24 +53,65 @@ fn equation(
         (typing_of left) (typing_of right) (meaning_view left.meaning)
         (meaning_view right.meaning)) }
 {
-    let first = env.range(left.shape);
-    let second = env.range(right.shape);
-    match (left.meaning, right.meaning) {
-        (Meaning::Place(place), Meaning::Place(other)) => {
-            if env.is_structured(left.shape) {
-                return Ok(Meaning::Test(Test::SameCells(place, other)));
+    let first = left.shape;
+    let second = right.shape;
+    match left.meaning {
+        Meaning::Place(place) => match right.meaning {
+            Meaning::Place(other) => {
+                if env.is_structured(first) {
+                    return Ok(Meaning::Test(Test::SameCells(place, other)));
+                }
+                Ok(Meaning::Test(Test::Unify(place, env.range(first), other, env.range(second))))
             }
-            Ok(Meaning::Test(Test::Unify(place, first, other, second)))
-        }
-        (Meaning::Place(place), value) => {
-            let value = as_value(alloc, value)?;
-            Ok(Meaning::Test(Test::Bind(place, value, first, true)))
-        }
-        (value, Meaning::Place(place)) => {
-            let value = as_value(alloc, value)?;
-            Ok(Meaning::Test(Test::Bind(place, value, second, false)))
-        }
-        (left, right) => compare(alloc, Cmp::Equal, left, right),
+            Meaning::Plain(expr) => Ok(Meaning::Test(Test::Bind(
+                place,
+                expr,
+                env.range(first),
+                true,
+            ))),
+            Meaning::Test(test) => {
+                let truth = Expr::Truth(Box::new(alloc, test)?);
+                Ok(Meaning::Test(Test::Bind(place, truth, env.range(first), true)))
+            }
+        },
+        Meaning::Plain(value) => match right.meaning {
+            Meaning::Place(place) => Ok(Meaning::Test(Test::Bind(
+                place,
+                value,
+                env.range(second),
+                false,
+            ))),
+            Meaning::Plain(expr) => compare(
+                alloc,
+                Cmp::Equal,
+                Meaning::Plain(value),
+                Meaning::Plain(expr),
+            ),
+            Meaning::Test(test) => compare(
+                alloc,
+                Cmp::Equal,
+                Meaning::Plain(value),
+                Meaning::Test(test),
+            ),
+        },
+        Meaning::Test(value) => match right.meaning {
+            Meaning::Place(place) => {
+                let truth = Expr::Truth(Box::new(alloc, value)?);
+                Ok(Meaning::Test(Test::Bind(place, truth, env.range(second), false)))
+            }
+            Meaning::Plain(expr) => compare(
+                alloc,
+                Cmp::Equal,
+                Meaning::Test(value),
+                Meaning::Plain(expr),
+            ),
+            Meaning::Test(test) => compare(
+                alloc,
+                Cmp::Equal,
+                Meaning::Test(value),
+                Meaning::Test(test),
+            ),
+        },
     }
 }
 

@@ -4,7 +4,7 @@
 ghost use Rattle.std.specs.Prelude.{◌≡◌, ℕ, ◌++◌, List, Option, None, Some, option_map, option_to_list, OnOk, IfOk, IsOk, is_some};
 ghost use Rattle.alma_ir.specs.Tree as ir;
 ghost use Rattle.alma_ir.specs.View.{arg_of, stmts_list};
-ghost use Rattle.alma_rules.specs.Judgement.{Judgement, and_then, both_of, with};
+ghost use Rattle.alma_rules.specs.Judgement.{Judgement, and_then, with};
 ghost use Rattle.alma_rules.specs.Answers.{Answers};
 ghost use Rattle.alma_rules.specs.Parts as parts;
 ghost use Rattle.alma_rules.specs.Nodes as nodes;
