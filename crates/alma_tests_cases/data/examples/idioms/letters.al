@@ -32,10 +32,11 @@ BEGIN
   Fill(1, "m", "e", "a", "t"); Fill(2, "o", "v", "e", "n"); Fill(3, "l", "i", "n", "e"); Fill(4, "d", "a", "r", "e");
   WHILE Word DO
     FOR i := 1 TO long DO WRITE(word[i]) END;
-    IF Find(x, y) THEN WRITELN(" from row ", y, ", column ", x) ELSE WRITELN(" is not there") END
+    IF Find(x, y) THEN WRITELN(" begins at ", y, ",", x) ELSE WRITELN(" is not there") END
   END;
   row[2] = "i"; row[4] = "e";
   SOME y := 1 TO N DO row = grid[y] END;
+  WRITE("-i-e is ");
   FOR i := 1 TO N DO WRITE(row[i]) END;
-  WRITELN(" is row ", y)
+  WRITELN
 END Letters.
