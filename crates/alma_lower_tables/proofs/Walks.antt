@@ -343,13 +343,14 @@ known_walked a b x d is h0 =
     (ap (λ y. P.expr_phrases (view.expr_of y)) is ∙ ap P.expr_phrases (views.known_view d))
     (phrase_walked a a b (P.ExprPhrase (Tree.Known (view.desig_of d))) (P.desig_phrases (view.desig_of d)) (names_none a) tt h0)
 
-pub chr_walked : (a b c : Tables) (x : E.Expr) (e : _) → x ≡ E.Chr e → Names a b (char_range ∷ []) []
+pub chr_walked : (a b c : Tables) (x : E.Expr) (e : _) (range : Range) → x ≡ E.Chr e → range ≡ char_range → Names a b (range ∷ []) []
     → AddsPhrases b c (P.expr_phrases (view.expr_of e.value)) → AddsPhrases a c (P.expr_phrases (view.expr_of x))
 unfolding P.stmts_phrases
-chr_walked a b c x e is n h0 =
+chr_walked a b c x e range is chars n h0 =
     as_phrases a c _ (P.expr_phrases (Tree.Chr (view.expr_of e.value)))
     (ap (λ y. P.expr_phrases (view.expr_of y)) is ∙ ap P.expr_phrases (views.chr_view e))
-    (phrase_walked a b c (P.ExprPhrase (Tree.Chr (view.expr_of e.value))) (P.expr_phrases (view.expr_of e.value)) n tt h0)
+    (phrase_walked a b c (P.ExprPhrase (Tree.Chr (view.expr_of e.value))) (P.expr_phrases (view.expr_of e.value))
+    (subst (λ r. Names a b (r ∷ []) []) chars n) tt h0)
 
 pub by_value_walked : (a b c : Tables) (x : A.Arg) (e : E.Expr) (range : Range) → x ≡ A.Value e range → Names a b (check_range range) []
     → AddsPhrases b c (P.expr_phrases (view.expr_of e)) → AddsPhrases a c (P.arg_phrases (view.arg_of x))

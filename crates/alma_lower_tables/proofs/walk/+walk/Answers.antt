@@ -127,8 +127,8 @@ walk_expr-returns-in-Known t c = on_ok_map c.walk_desig-in-Known.result (λ h. k
 
 pub walk_expr-returns-in_ok-add_range-in-Chr : goal.walk_expr-returns-in_ok-add_range-in-Chr
 walk_expr-returns-in_ok-add_range-in-Chr t c =
-    on_ok_map c.walk_expr-in-Chr.result (λ h. chr_walked _ _ _ _ c.in-Chr.inner c.in-Chr.is c.in_ok-add_range-in-Chr.ensures.names
-    (expr_at _ _ _ _ c.deref-in-Chr.ensures h)) c.walk_expr-in-Chr.ensures
+    on_ok_map c.walk_expr-in-Chr.result (λ h. chr_walked _ _ _ _ c.in-Chr.inner _ c.in-Chr.is c.character.ensures
+    c.in_ok-add_range-in-Chr.ensures.names (expr_at _ _ _ _ c.deref-in-Chr.ensures h)) c.walk_expr-in-Chr.ensures
 
 pub walk_expr-returns-in-Call : goal.walk_expr-returns-in-Call
 walk_expr-returns-in-Call t c = on_ok_map c.walk_args.result
