@@ -4,14 +4,14 @@ use Rattle.alma_driver_words.specs.Exit as exit
 use Rattle.alma_plan.specs.Plan.{Ending, bad_word, success, tells}
 use Rattle.alma_plan.specs.Ends.{file_end, program_end}
 use Rattle.alma_all.specs.declared.end.AllEnd.{AllEnd}
-use Rattle.alma_all.specs.declared.end.AllEnd.TheVariants.{BadWord, NoProgram, ModuleReturn, Run}
+use Rattle.alma_all.specs.declared.end.AllEnd.TheVariants.{BadWord, Unread, ModuleReturn, Performed}
 use Rattle.alma_all.specs.All.{program}
 
 abbrev pub all_end : (file : List ℕ) → AllEnd → Ending
 all_end file (BadWord word) = bad_word program word
-all_end file (NoProgram stop) = file_end program file stop
+all_end file (Unread stop) = file_end program file stop
 all_end file ModuleReturn = tells program exit.own_refusal (codes "ModuleReturn")
-all_end file (Run end) = program_end program success end
+all_end file (Performed end) = program_end program success end
 
 -- the first word, which names the file; none where there is none
 abbrev pub file_of : (words : List (List ℕ)) → List ℕ

@@ -7,9 +7,9 @@ pub enum AllEnd {
     /// The first word, from 1, that cannot stand where it is, or one more than there are.
     BadWord(usize),
     /// The file gives no program.
-    NoProgram(FileStop),
+    Unread(FileStop),
     /// A RETURN stands in the body of the module.
     ModuleReturn,
     /// The program that lists the alternatives was run, or not compiled.
-    Run(ProgramEnd),
+    Performed(ProgramEnd),
 }

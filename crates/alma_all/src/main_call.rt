@@ -24,9 +24,9 @@ fn tell<E: Sink>(err: &mut E, file: &str, end: AllEnd) -> Status
 {
     match end {
         AllEnd::BadWord(word) => refuse(err, PROGRAM, Refusal::BadWord(word)),
-        AllEnd::NoProgram(stop) => tell_file(err, PROGRAM, file.as_bytes(), stop),
+        AllEnd::Unread(stop) => tell_file(err, PROGRAM, file.as_bytes(), stop),
         AllEnd::ModuleReturn => { refuse_with(err, PROGRAM, exit::OWN_REFUSAL, b"ModuleReturn") }
-        AllEnd::Run(end) => tell_program(err, PROGRAM, exit::SUCCEEDED, end),
+        AllEnd::Performed(end) => tell_program(err, PROGRAM, exit::SUCCEEDED, end),
     }
 }
 

@@ -35,9 +35,9 @@ fn list<I: Source, O: Sink>(
         (all_end file result) }
 {
     match listing_program(alloc, program) {
-        Ok(lister) => AllEnd::Run(run_program(alloc, &lister, input, steps, out)),
+        Ok(lister) => AllEnd::Performed(run_program(alloc, &lister, input, steps, out)),
         Err(AllError::ModuleReturn) => AllEnd::ModuleReturn,
-        Err(AllError::Memory) => AllEnd::Run(ProgramEnd::Stopped(Stop::Memory)),
+        Err(AllError::Memory) => AllEnd::Performed(ProgramEnd::Stopped(Stop::Memory)),
     }
 }
 
@@ -58,7 +58,7 @@ fn list_file<F: Files, I: Source, O: Sink>(
 {
     match read_unit(alloc, files, file) {
         Ok(program) => list(alloc, &program, input, steps, out),
-        Err(error) => AllEnd::NoProgram(FileStop::from(error)),
+        Err(error) => AllEnd::Unread(FileStop::from(error)),
     }
 }
 

@@ -1,11 +1,11 @@
 -- All turns of a file.
-use Rattle.std.proofs.Common.{◌≡◌, ◌<◌, ◌≤◌, ◌+◌, ◌-◌, ◌∙◌, ℕ, zero, suc, List, [], ◌∷◌, ◌++◌, length, get_or, take, drop, refl, sym}
+use Rattle.std.proofs.Common.{◌≡◌, ◌<◌, ◌≤◌, ◌+◌, ◌-◌, ◌∙◌, ℕ, zero, suc, List, [], ◌∷◌, ◌++◌, length, get_or, take, refl, sym}
 use Rattle.std.proofs.Common.{ap, subst, arith}
 use Rattle.std.proofs.lemmas.Bool.{and_parts, leb-true, ltb-true, eq-eqb, ne_eqb}
-use Rattle.std.proofs.lemmas.List.{get_or-set_same, length-set, take_more, drop_more, drop_all, append-nil, map-append, length-map}
+use Rattle.std.proofs.lemmas.List.{get_or-set_same, length-set, take_more, append-nil, map-append, length-map}
 use Rattle.std.proofs.lemmas.List.Concat.{flat_map-append}
 use Rattle.std.proofs.lemmas.List.Elements.{All-set, All-map}
-use Rattle.std.specs.Prelude.{Bool, true, false, ◌&&◌, ◌||◌, leb, ltb, cond, Option, None, Some, Result, Ok, Err, OnOk, All}
+use Rattle.std.specs.Prelude.{Bool, true, false, ◌&&◌, ◌||◌, leb, ltb, cond, Option, None, Result, Ok, Err, OnOk, All}
 use Rattle.alma_code.specs.Plain.{PlainCode}
 use Rattle.alma_verify.specs.Verified.{code_of_verified}
 use Rattle.alma_verify.specs.declared.verified.Verified.{Verified}
@@ -58,25 +58,6 @@ letter_turn byte other = ap (λ b. cond b [] ((byte - 97) ∷ [])) (ne_eqb byte 
 
 pub feed_turn : (byte : ℕ) → byte ≡ 10 → turn_in byte ≡ []
 feed_turn byte is = ap (λ b. cond b [] ((byte - 97) ∷ [])) (eq-eqb byte 10 is)
-
--- the first bad byte, from one of the bytes on
-bad_here : (programs : ℕ) (turns : List ℕ) (i d : ℕ) → i < length turns
-    → bad_turn_behind programs i (drop i turns) ≡ unless (is_turn programs (get_or turns i d)) (i + 1)
-    (bad_turn_behind programs (i + 1) (drop (i + 1) turns))
-bad_here programs turns i d within = ap (bad_turn_behind programs i) (drop_more turns i d within)
-
-pub bad_found : (programs : ℕ) (turns : List ℕ) (i d : ℕ) → i < length turns → is_turn programs (get_or turns i d) ≡ false
-    → bad_turn_behind programs i (drop i turns) ≡ Some (i + 1)
-bad_found programs turns i d within bad =
-    bad_here programs turns i d within ∙ ap (λ good. unless good (i + 1) (bad_turn_behind programs (i + 1) (drop (i + 1) turns))) bad
-
-pub bad_passed : (programs : ℕ) (turns : List ℕ) (i d : ℕ) → i < length turns → is_turn programs (get_or turns i d) ≡ true
-    → bad_turn_behind programs i (drop i turns) ≡ bad_turn_behind programs (i + 1) (drop (i + 1) turns)
-bad_passed programs turns i d within good =
-    bad_here programs turns i d within ∙ ap (λ b. unless b (i + 1) (bad_turn_behind programs (i + 1) (drop (i + 1) turns))) good
-
-pub bad_none : (programs : ℕ) (turns : List ℕ) (i : ℕ) → length turns ≤ i → bad_turn_behind programs i (drop i turns) ≡ None
-bad_none programs turns i all = ap (bad_turn_behind programs i) (drop_all i turns all)
 
 -- ---- the turns
 

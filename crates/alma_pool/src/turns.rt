@@ -21,12 +21,10 @@ fn is_turn(programs: usize, byte: u8) -> bool
 pub fn bad_turn(programs: usize, turns: &[u8]) -> Option<usize>
     ensures { result ≡ bad_turn_behind programs 0 turns.now }
 {
-    let mut at = 0;
-    while at < turns.len() {
-        if !is_turn(programs, turns[at]) {
+    for (at, byte) in turns.iter().enumerate() {
+        if !is_turn(programs, *byte) {
             return Some(at + 1);
         }
-        at += 1;
     }
     None
 }

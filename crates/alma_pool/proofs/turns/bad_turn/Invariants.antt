@@ -1,12 +1,6 @@
-use Rattle.std.proofs.Common.{◌≡◌, ◌≤◌, ◌-◌, length, drop}
+use Rattle.std.proofs.Common.{◌≡◌, drop}
 use Rattle.alma_pool.specs.Due.{bad_turn_behind}
 use Rattle.alma_pool.proofs.turns.bad_turn.Given as goal
 
 abbrev pub invariant-loop-at : goal.invariant-loop-at
-invariant-loop-at l = record {
-  within : l.at ≤ length l.turns;
-  same : bad_turn_behind l.programs 0 l.turns ≡ bad_turn_behind l.programs l.at (drop l.at l.turns);
-}
-
-abbrev pub decreases-loop-at : goal.decreases-loop-at
-decreases-loop-at l = length l.turns - l.at
+invariant-loop-at l = bad_turn_behind l.programs 0 l.turns ≡ bad_turn_behind l.programs l.at (drop l.at l.turns)
