@@ -1,7 +1,7 @@
 // Equations of two cells, and of the cells of two places, one after another.
 ghost use Rattle.std.specs.Prelude.{◌≡◌, ◌+◌, ◌<◌, ◌≤◌, Some, None, IfOk, OnErr, IsOk};
 ghost use Rattle.alma_code.specs.Machine.{place, equation_of_contents, equation, equations, quiet_step};
-ghost use Rattle.alma_machine_acts.specs.Acts.{Acts, Makes};
+ghost use Rattle.alma_machine_acts.specs.Acts.{Acts, Makes, KeepsPast};
 ghost use Rattle.alma_machine_acts.specs.Rows.{state_of, HasCells, HasOneCell, HasNumberIn, KeepsNumbers, width, AreNumbers};
 ghost use Rattle.alma_machine_acts.specs.Meets.{Meets, MeetsOn, give_number};
 
@@ -33,7 +33,7 @@ impl<M: MachineMemory> Registers<M> {
         ensures succeeds { 1 ≤ (M.picture self.old.memory).trail_room → IsOk result }
         ensures room { (M.picture self.old.memory).trail_room
             ≤ (M.picture self.new.memory).trail_room + 1 }
-        ensures past { (M.picture self.new.memory).past ≡ (M.picture self.old.memory).past }
+        ensures past { KeepsPast M.picture self.old self.new }
     {
         let Some(number) = known else {
             return Ok(Met::Ends(self.end(End::Fault(RunFault::Unknown))));
@@ -72,7 +72,7 @@ impl<M: MachineMemory> Registers<M> {
         ensures succeeds { 1 ≤ (M.picture self.old.memory).trail_room → IsOk result }
         ensures room { (M.picture self.old.memory).trail_room
             ≤ (M.picture self.new.memory).trail_room + 1 }
-        ensures past { (M.picture self.new.memory).past ≡ (M.picture self.old.memory).past }
+        ensures past { KeepsPast M.picture self.old self.new }
     {
         match (left_known, right_known) {
             (Some(x), Some(y)) => {
@@ -109,7 +109,7 @@ impl<M: MachineMemory> Registers<M> {
         ensures succeeds { 1 ≤ (M.picture self.old.memory).trail_room → IsOk result }
         ensures room { (M.picture self.old.memory).trail_room
             ≤ (M.picture self.new.memory).trail_room + 1 }
-        ensures past { (M.picture self.new.memory).past ≡ (M.picture self.old.memory).past }
+        ensures past { KeepsPast M.picture self.old self.new }
     {
         let left_known = self.content(left.frame, left.slot);
         let right_known = self.content(right.frame, right.slot);
@@ -134,12 +134,11 @@ impl<M: MachineMemory> Registers<M> {
     ) -> Result<Step, NoMemory>
         requires left { HasOneCell (M.picture self.old.memory).now left }
         requires right { HasOneCell (M.picture self.old.memory).now right }
-        ensures acts { let s = state_of M.picture self.old in
-            Acts s (state_of M.picture self.new) result
+        ensures { let s = state_of M.picture self.old in
+            Acts M.picture self.old self.new result
             (place s left (λ p. place s right
             (λ q. equation s p.frame p.slot (Some left_range)
             q.frame q.slot (Some right_range) quiet_step))) }
-        ensures past { (M.picture self.new.memory).past ≡ (M.picture self.old.memory).past }
     {
         let left = match self.place(left) {
             Ok(place) => place,
@@ -169,10 +168,9 @@ impl<M: MachineMemory> Registers<M> {
         requires left { AreNumbers (M.picture self.old.memory).now left.frame left.slot count }
         requires right { AreNumbers (M.picture self.old.memory).now right.frame right.slot count }
         requires room { count ≤ (M.picture self.old.memory).trail_room }
-        ensures made { Makes (state_of M.picture self.old) (state_of M.picture self.new) result
+        ensures { Makes M.picture self.old self.new result
             (equations count (state_of M.picture self.old)
             left.frame left.slot right.frame right.slot) }
-        ensures past { (M.picture self.new.memory).past ≡ (M.picture self.old.memory).past }
     {
         for k in 0..count {
             let first = Spot {
@@ -199,11 +197,10 @@ impl<M: MachineMemory> Registers<M> {
         requires right { HasCells (M.picture self.old.memory).now right }
         requires alike { width (M.picture self.old.memory).now left
             ≡ width (M.picture self.old.memory).now right }
-        ensures acts { let s = state_of M.picture self.old in
-            Acts s (state_of M.picture self.new) result
+        ensures { let s = state_of M.picture self.old in
+            Acts M.picture self.old self.new result
             (place s left (λ p. place s right
             (λ q. equations p.len s p.frame p.slot q.frame q.slot))) }
-        ensures past { (M.picture self.new.memory).past ≡ (M.picture self.old.memory).past }
     {
         let left = match self.place(left) {
             Ok(place) => place,

@@ -7,8 +7,8 @@ use Rattle.alma_machine_acts.specs.Rows.{state_of}
 use Rattle.alma_machine_acts.proofs.Meetings.{equated_more, equations_end}
 use Rattle.alma_machine_acts.proofs.registers.Registers.equate_all.Goals as goal
 
-pub returns-in-Ok-Ends-clause-made : goal.returns-in-Ok-Ends-clause-made
-returns-in-Ok-Ends-clause-made g c =
+pub returns-in-Ok-Ends : goal.returns-in-Ok-Ends
+returns-in-Ok-Ends g c =
     let t = state_of g.M.MachineMemory.picture c.loop-k.self in
     let u = state_of g.M.MachineMemory.picture c.equate.new.self in
     let f = c.args.left.frame in
@@ -22,6 +22,7 @@ returns-in-Ok-Ends-clause-made g c =
       step = sym (c.loop-k.invariant.equation_of_contents.rest
           ∙ equations_end c.args.count k t u c.in-Ok-Ends.step f i b j c.loop-k-test.true ends);
       kept = search rules;
+      past = search rules;
     }
 
 pub loop-k-preserved : goal.loop-k-preserved
