@@ -17,7 +17,8 @@ returns-in-Ok-Ends g c =
     let j = c.args.right.slot in
     let k = c.loop-k.k in
     let ends : Meets (Ends c.in-Ok-Ends.step) (λ q. equation t f (i + k) None b (j + k) None q) u =
-    subst (λ met. Meets met (λ q. equation t f (i + k) None b (j + k) None q) u) c.in-Ok-Ends.field-0-is c.in-Ok-Ends.ensures.ok in
+    subst (λ met. Meets met (λ q. equation t f (i + k) None b (j + k) None q) u) c.in-Ok-Ends.field-0-is
+    c.in-Ok-Ends.ensures.equates.meets in
     record {
       step = sym (c.loop-k.invariant.equation_of_contents.rest
           ∙ equations_end c.args.count k t u c.in-Ok-Ends.step f i b j c.loop-k-test.true ends);
@@ -36,11 +37,12 @@ loop-k-preserved g c =
     let j = c.args.right.slot in
     let k = c.loop-k.k in
     let holds : Meets Holds (λ q. equation t f (i + k) None b (j + k) None q) u =
-    subst (λ met. Meets met (λ q. equation t f (i + k) None b (j + k) None q) u) c.in-Ok-Holds.field-0-is c.in-Ok-Holds.ensures.ok in
-    let kept : MeetsOn Holds t u = subst (λ met. MeetsOn met t u) c.in-Ok-Holds.field-0-is c.in-Ok-Holds.ensures.kept in
+    subst (λ met. Meets met (λ q. equation t f (i + k) None b (j + k) None q) u) c.in-Ok-Holds.field-0-is
+    c.in-Ok-Holds.ensures.equates.meets in
+    let kept : MeetsOn Holds t u = subst (λ met. MeetsOn met t u) c.in-Ok-Holds.field-0-is c.in-Ok-Holds.ensures.equates.kept in
     record {
       equation_of_contents = equated_more c.args.count k s t u f i b j c.loop-k-test.true c.loop-k.invariant.equation_of_contents holds
-          c.in-Ok-Holds.ensures.stays kept;
-      room = omega (arith, c.loop-k.invariant.room, c.in-Ok-Holds.ensures.room);
-      past = c.in-Ok-Holds.ensures.past ∙ c.loop-k.invariant.past;
+          c.in-Ok-Holds.ensures.writes.stays kept;
+      room = omega (arith, c.loop-k.invariant.room, c.in-Ok-Holds.ensures.writes.room);
+      past = c.in-Ok-Holds.ensures.equates.past ∙ c.loop-k.invariant.past;
     }

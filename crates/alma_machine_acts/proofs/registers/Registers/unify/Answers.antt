@@ -41,7 +41,7 @@ returns-in-Holds g c =
     let q = c.in-Ok-place.place in
     let holds : Meets Holds (λ k. equation s p.frame p.slot (Some a.left_range) q.frame q.slot (Some a.right_range) k) t =
     subst (λ met. Meets met (λ k. equation s p.frame p.slot (Some a.left_range) q.frame q.slot (Some a.right_range) k) t)
-    c.in-Holds.is c.in_ok-equate.ensures.ok in
+    c.in-Holds.is c.in_ok-equate.ensures.equates.meets in
     record {
       step = sym (c.in-Ok.ensures.1 s
           (λ p. place s a.right (λ q. equation s p.frame p.slot (Some a.left_range) q.frame q.slot (Some a.right_range) quiet_step)) refl
@@ -60,7 +60,7 @@ returns-in-Ends g c =
     let q = c.in-Ok-place.place in
     let ends : Meets (Ends c.in-Ends.step) (λ k. equation s p.frame p.slot (Some a.left_range) q.frame q.slot (Some a.right_range) k) t =
     subst (λ met. Meets met (λ k. equation s p.frame p.slot (Some a.left_range) q.frame q.slot (Some a.right_range) k) t)
-    c.in-Ends.is c.in_ok-equate.ensures.ok in
+    c.in-Ends.is c.in_ok-equate.ensures.equates.meets in
     record {
       step = sym (c.in-Ok.ensures.1 s
           (λ p. place s a.right (λ q. equation s p.frame p.slot (Some a.left_range) q.frame q.slot (Some a.right_range) quiet_step)) refl
