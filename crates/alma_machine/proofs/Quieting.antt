@@ -4,21 +4,28 @@ use Rattle.std.specs.Prelude.{ℤ, Bool, Option, Result, Ok, Err, is_ok}
 use Rattle.alma_base.specs.declared.number.Range.{Range}
 use Rattle.alma_code.specs.declared.step.Step.{Step}
 use Rattle.alma_code.specs.Machine.{State, StepResult, content, store, equation, equation_of_contents, quiet_step}
+use Rattle.alma_memory.specs.Machine.{MachinePicture}
 use Rattle.alma_machine.specs.Quick.{Quietly}
+use Rattle.alma_machine_acts.specs.declared.registers.Registers.{Registers}
 use Rattle.alma_machine_acts.specs.Acts.{Acts}
-use Rattle.alma_machine_acts.specs.Rows.{HasNumberIn, KeepsOn, GivesContent}
+use Rattle.alma_machine_acts.specs.Rows.{state_of, HasNumberIn, KeepsOn, GivesContent}
 use Rattle.alma_machine_acts.proofs.Words.{store_is}
 
 -- a store that was made is a step with nothing to tell, and one that wanted memory is none
-pub quietly_stored : {E : Type 0} (r : Result Step E) (b : Bool) (old new : State) (f n : ℕ) (v : ℤ) (word : StepResult) → b ≡ is_ok r
-    → HasNumberIn old.now f n → Acts old new r (store old f n v quiet_step) → store old f n v quiet_step ≡ word → Quietly b old new word
-quietly_stored (Ok a) b old new f n v word made h done is =
-    let put = store_is old f n v quiet_step h in
-    subst (λ b. Quietly b old new word) (sym made) (record {
+pub quietly_stored : {M E : Type 0} (picture : M → MachinePicture) (old new : Registers M) (r : Result Step E) (b : Bool) (f n : ℕ) (v : ℤ)
+    (word : StepResult) → b ≡ is_ok r → HasNumberIn (picture old.memory).now f n
+    → Acts picture old new r (store (state_of picture old) f n v quiet_step) → store (state_of picture old) f n v quiet_step ≡ word
+    → Quietly b (state_of picture old) (state_of picture new) word
+quietly_stored picture old new (Ok a) b f n v word made h done is =
+    let s = state_of picture old in
+    let t = state_of picture new in
+    let put = store_is s f n v quiet_step h in
+    subst (λ b. Quietly b s t word) (sym made) (record {
       step = ap (λ (w : StepResult). quiet_step w.state) (done.step ∙ put) ∙ sym put ∙ is;
-      kept = subst (λ a. KeepsOn a old new) (ap (λ (w : StepResult). w.answer) (done.step ∙ put)) done.kept;
+      kept = subst (λ a. KeepsOn a s t) (ap (λ (w : StepResult). w.answer) (done.step ∙ put)) done.kept;
     })
-quietly_stored (Err e) b old new f n v word made h none is = subst (λ b. Quietly b old new word) (sym made) none
+quietly_stored picture old new (Err e) b f n v word made h none is =
+    subst (λ b. Quietly b (state_of picture old) (state_of picture new) word) (sym made) none.0
 
 -- two cells are equated by what they know
 pub known_equation : (s : State) (f i g j : ℕ) (r t : Option Range) {u v x y : Option ℤ} (k : State → StepResult) → GivesContent s.now f i u

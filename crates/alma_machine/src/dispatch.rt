@@ -63,10 +63,8 @@ pub fn act<M: MachineMemory, V: CodeView>(
     requires few { registers.old.choices + 1 < 2 ^ 63 }
     requires lawful { length input.now ≤ input_limit }
     requires empty { bytes.old.items ≡ [] }
-    ensures acts { ActsWith (state_of M.picture registers.old) (state_of M.picture registers.new)
-        bytes.new.items result
+    ensures { ActsWith M.picture registers.old registers.new bytes.new.items result
         (act (V.code view.now) input.now instr (state_of M.picture registers.old)) }
-    ensures past { (M.picture registers.new.memory).past ≡ (M.picture registers.old.memory).past }
 {
     match instr {
         Instr::WriteInt { value } => print_number(registers, value, bytes),
@@ -109,9 +107,8 @@ fn act_control<M: MachineMemory, V: CodeView>(
     requires needs { Needs (V.code view.now) (M.picture registers.old.memory).now instr }
     requires left { LeftToControl instr }
     requires limits { WithinLimits registers.old.choices input.now }
-    ensures acts { Acts (state_of M.picture registers.old) (state_of M.picture registers.new) result
+    ensures { Acts M.picture registers.old registers.new result
         (act (V.code view.now) input.now instr (state_of M.picture registers.old)) }
-    ensures past { (M.picture registers.new.memory).past ≡ (M.picture registers.old.memory).past }
 {
     match instr {
         Instr::InRange { value, range } => match view.range(range) {
@@ -144,9 +141,8 @@ fn act_places<M: MachineMemory, V: CodeView>(
     requires needs { Needs (V.code view.now) (M.picture registers.old.memory).now instr }
     requires left { LeftToPlaces instr }
     requires limits { WithinLimits registers.old.choices input.now }
-    ensures acts { Acts (state_of M.picture registers.old) (state_of M.picture registers.new) result
+    ensures { Acts M.picture registers.old registers.new result
         (act (V.code view.now) input.now instr (state_of M.picture registers.old)) }
-    ensures past { (M.picture registers.new.memory).past ≡ (M.picture registers.old.memory).past }
 {
     match instr {
         Instr::Local { to, first } => {
@@ -189,9 +185,8 @@ fn act_cells<M: MachineMemory, V: CodeView>(
     requires needs { Needs (V.code view.now) (M.picture registers.old.memory).now instr }
     requires left { LeftToCells instr }
     requires limits { WithinLimits registers.old.choices input.now }
-    ensures acts { Acts (state_of M.picture registers.old) (state_of M.picture registers.new) result
+    ensures { Acts M.picture registers.old registers.new result
         (act (V.code view.now) input.now instr (state_of M.picture registers.old)) }
-    ensures past { (M.picture registers.new.memory).past ≡ (M.picture registers.old.memory).past }
 {
     match instr {
         Instr::Store { to, from } => registers.store(to, from),
@@ -229,9 +224,8 @@ fn act_choices<M: MachineMemory, V: CodeView>(
     requires needs { Needs (V.code view.now) (M.picture registers.old.memory).now instr }
     requires left { LeftToChoices instr }
     requires limits { WithinLimits registers.old.choices input.now }
-    ensures acts { Acts (state_of M.picture registers.old) (state_of M.picture registers.new) result
+    ensures { Acts M.picture registers.old registers.new result
         (act (V.code view.now) input.now instr (state_of M.picture registers.old)) }
-    ensures past { (M.picture registers.new.memory).past ≡ (M.picture registers.old.memory).past }
 {
     match instr {
         Instr::Mark { to } => set_mark(registers, to),
@@ -256,9 +250,8 @@ fn act_calls<M: MachineMemory, V: CodeView>(
     requires needs { Needs (V.code view.now) (M.picture registers.old.memory).now instr }
     requires left { LeftToCalls instr }
     requires limits { WithinLimits registers.old.choices input.now }
-    ensures acts { Acts (state_of M.picture registers.old) (state_of M.picture registers.new) result
+    ensures { Acts M.picture registers.old registers.new result
         (act (V.code view.now) input.now instr (state_of M.picture registers.old)) }
-    ensures past { (M.picture registers.new.memory).past ≡ (M.picture registers.old.memory).past }
 {
     match instr {
         Instr::Call { routine, first, .. } => match view.routine(routine) {
@@ -282,9 +275,8 @@ fn act_input<M: MachineMemory, V: CodeView>(
     requires needs { Needs (V.code view.now) (M.picture registers.old.memory).now instr }
     requires left { LeftToInput instr }
     requires limits { WithinLimits registers.old.choices input.now }
-    ensures acts { Acts (state_of M.picture registers.old) (state_of M.picture registers.new) result
+    ensures { Acts M.picture registers.old registers.new result
         (act (V.code view.now) input.now instr (state_of M.picture registers.old)) }
-    ensures past { (M.picture registers.new.memory).past ≡ (M.picture registers.old.memory).past }
 {
     match instr {
         Instr::ReadInt { place, range } => match view.range(range) {
@@ -310,9 +302,8 @@ fn act_links<M: MachineMemory, V: CodeView>(
     requires needs { Needs (V.code view.now) (M.picture registers.old.memory).now instr }
     requires left { LeftToLinks instr }
     requires limits { WithinLimits registers.old.choices input.now }
-    ensures acts { Acts (state_of M.picture registers.old) (state_of M.picture registers.new) result
+    ensures { Acts M.picture registers.old registers.new result
         (act (V.code view.now) input.now instr (state_of M.picture registers.old)) }
-    ensures past { (M.picture registers.new.memory).past ≡ (M.picture registers.old.memory).past }
 {
     match instr {
         Instr::Own { to } => {

@@ -6,6 +6,7 @@ ghost use Rattle.alma_code.specs.Plain.{head_at};
 ghost use Rattle.alma_object.specs.View.{code_of_view, head_of_view};
 ghost use Rattle.alma_verify.specs.Verified.{code_of_verified};
 ghost use Rattle.alma_code.specs.Machine.{Going, step, start, after, prints};
+ghost use Rattle.alma_machine_acts.specs.Acts.{KeepsPast};
 ghost use Rattle.alma_machine_acts.specs.Rows.{state_of};
 ghost use Rattle.alma_machine_acts.specs.Steps.{step_result, ModeAfter, PrintsOnly};
 ghost use Rattle.alma_machine.specs.View.{runs_after};
@@ -78,7 +79,7 @@ fn take<M: MachineMemory, V: CodeView>(
     ensures refused { OnErr result
         ((state_of M.picture registers.new ≡ state_of M.picture registers.old)
         × (printed.new.items ≡ [])) }
-    ensures past { (M.picture registers.new.memory).past ≡ (M.picture registers.old.memory).past }
+    ensures past { KeepsPast M.picture registers.old registers.new }
 {
     // The count bounds `at + 1`: it is a u32, and `at` is below it.
     let _count = view.code_count();
@@ -120,7 +121,7 @@ pub fn advance<M: MachineMemory, V: CodeView>(
     ensures refused { OnErr result
         ((state_of M.picture registers.new ≡ state_of M.picture registers.old)
         × (printed.new.items ≡ [])) }
-    ensures past { (M.picture registers.new.memory).past ≡ (M.picture registers.old.memory).past }
+    ensures past { KeepsPast M.picture registers.old registers.new }
 {
     printed.clear();
     match registers.mode {

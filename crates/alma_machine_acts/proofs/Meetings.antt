@@ -1,16 +1,17 @@
 -- What equations give.
 use Rattle.std.proofs.Common.{◌≡◌, ℕ, suc, ◌+◌, ◌-◌, ◌<◌, ◌^◌, List, [], sym, ap, subst, arith, ◌∙◌}
-use Rattle.std.specs.Prelude.{None, Result, Ok, Err, IfOk}
+use Rattle.std.specs.Prelude.{None, Result, Ok, Err}
 use Rattle.alma_code.specs.Machine.{State, StepResult, equation, equations}
 use Rattle.alma_machine_acts.specs.declared.equations.Met.{Met}
 use Rattle.alma_machine_acts.specs.declared.equations.Met.TheVariants.{Holds, Ends}
-use Rattle.alma_machine_acts.specs.Meets.{Meets, MeetsOn}
-use Rattle.alma_machine_acts.specs.Rows.{HasNumberIn, IsCells, KeepsNumbers, AreNumbers}
+use Rattle.alma_memory.specs.Machine.{MachinePicture}
+use Rattle.alma_machine_acts.specs.declared.registers.Registers.{Registers}
+use Rattle.alma_machine_acts.specs.Meets.{Meets, MeetsOn, Equates}
+use Rattle.alma_machine_acts.specs.Rows.{HasNumberIn, IsCells, KeepsNumbers, AreNumbers, state_of}
 use Rattle.alma_machine_acts.specs.Steps.{step_result}
 use Rattle.alma_code.specs.Picture.{PlainFrame}
 use Rattle.alma_code.specs.declared.cell.CellPlace.{CellPlace}
 use Rattle.alma_code.specs.declared.step.Step.{Step}
-use Rattle.alma_code.specs.declared.step.Step.TheVariants as answer
 
 -- what a word gives another gives that is equal to it
 meets_as : (met : Met) (w w' : (State → StepResult) → StepResult) (new : State) → ((k : State → StepResult) → w' k ≡ w k) → Meets met w new
@@ -18,10 +19,13 @@ meets_as : (met : Met) (w w' : (State → StepResult) → StepResult) (new : Sta
 meets_as Holds w w' new e h = λ k. e k ∙ h k
 meets_as (Ends step) w w' new e h = λ k. e k ∙ h k
 
-pub ok_meets : {E : Type 0} (r : Result Met E) (w w' : (State → StepResult) → StepResult) (new : State) → IfOk r (λ met. Meets met w new)
-    → ((k : State → StepResult) → w' k ≡ w k) → IfOk r (λ met. Meets met w' new)
-ok_meets (Ok met) w w' new h e = meets_as met w w' new e h
-ok_meets (Err f) w w' new h e = tt
+-- and so does what settled an equation, or did nothing
+pub equates_as : {M E : Type 0} (picture : M → MachinePicture) (old new : Registers M) (r : Result Met E)
+    (w w' : (State → StepResult) → StepResult) → Equates picture old new r w → ((k : State → StepResult) → w' k ≡ w k)
+    → Equates picture old new r w'
+equates_as picture old new (Ok met) w w' h e =
+    record { meets = meets_as met w w' (state_of picture new) e h.meets; kept = h.kept; past = h.past }
+equates_as picture old new (Err f) w w' h e = h
 
 -- one of the cells, after writes that keep number slots
 pub cell_of : (old now : List PlainFrame) (f i n k : ℕ) → AreNumbers old f i n → KeepsNumbers old now → k < n → HasNumberIn now f (i + k)

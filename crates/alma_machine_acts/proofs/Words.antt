@@ -21,6 +21,8 @@ use Rattle.alma_code.specs.Fits.{IsContent}
 use Rattle.alma_code.specs.Machine.{State, StepResult, number, place, content, as_content, as_number, as_place, ends_in_fault, put_number}
 use Rattle.alma_code.specs.Machine.{to_number, quiet_step, gets_stuck, store, with_slot, with_cell}
 use Rattle.alma_code.specs.Picture.{PlainFrame, no_frame, last_frame, cell_at}
+use Rattle.alma_memory.specs.Machine.{MachinePicture}
+use Rattle.alma_machine_acts.specs.declared.registers.Registers.{Registers}
 use Rattle.alma_machine_acts.specs.Acts.{Acts, Makes}
 use Rattle.alma_machine_acts.specs.Rows.{HasSlot, HasNumber, HasNumberIn, IsCells, HoldsCells, Gives, put_or_fault}
 
@@ -192,12 +194,14 @@ pub ruleset puts = (put_is, number_is_slot)
 -- ---- answers
 
 -- what was made, by an equal word
-pub makes_is : (answer : Step) (old new : State) (x y : StepResult) → Makes old new answer x → x ≡ y → Makes old new answer y
-makes_is answer old new x y h e = subst (Makes old new answer) e h
+pub makes_is : {M : Type 0} {picture : M → MachinePicture} {old new : Registers M} {answer : Step} {x y : StepResult}
+    → Makes picture old new answer x → x ≡ y → Makes picture old new answer y
+makes_is {M} {picture} {old} {new} {answer} h e = subst (Makes picture old new answer) e h
 
 -- what was acted on, by an equal word
-pub acts_is : {E : Type 0} (r : Result Step E) (old new : State) (x y : StepResult) → Acts old new r x → x ≡ y → Acts old new r y
-acts_is r old new x y h e = subst (Acts old new r) e h
+pub acts_is : {M E : Type 0} (picture : M → MachinePicture) (old new : Registers M) (r : Result Step E) {x y : StepResult}
+    → Acts picture old new r x → x ≡ y → Acts picture old new r y
+acts_is picture old new r h e = subst (Acts picture old new r) e h
 
 -- what a word gives goes into a slot, or ends the run
 pub gives_put : (now : List PlainFrame) (word : State → (ℤ → StepResult) → StepResult) (s : State) (to : ℕ) (result : Result ℤ RunFault)

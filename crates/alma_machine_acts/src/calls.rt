@@ -1,5 +1,5 @@
 // Calls and returns.
-ghost use Rattle.std.specs.Prelude.{◌≡◌, ◌≤◌, length, Some, IfOk};
+ghost use Rattle.std.specs.Prelude.{◌≤◌, length, Some, IfOk};
 ghost use Rattle.alma_code.specs.declared.step.End.TheVariants as end;
 ghost use Rattle.alma_code.specs.Carries.{IsLive};
 ghost use Rattle.alma_code.specs.Layout.{IsHead, FitsParams};
@@ -69,10 +69,9 @@ fn enter<M: MachineMemory, H: Head>(
     requires args { FitsParams (IsLive (M.picture registers.old.memory).now)
         (λ routine. IsLive (M.picture registers.old.memory).now) (H.head head.now).params
         registers.old.args.items }
-    ensures acts { Acts (state_of M.picture registers.old) (state_of M.picture registers.new) result
+    ensures { Acts M.picture registers.old registers.new result
         (enters_routine (state_of M.picture registers.old) routine start
         (H.head head.now) registers.old.args.items) }
-    ensures past { (M.picture registers.new.memory).past ≡ (M.picture registers.old.memory).past }
 {
     match registers
         .memory
@@ -99,11 +98,10 @@ pub fn call<M: MachineMemory, H: Head>(
     requires head { IsHead (H.head head.now) }
     requires args { HasArguments (M.picture registers.old.memory).now
         (H.head head.now).params first }
-    ensures acts { let s = state_of M.picture registers.old in
-        Acts s (state_of M.picture registers.new) result
+    ensures { let s = state_of M.picture registers.old in
+        Acts M.picture registers.old registers.new result
         (arguments (H.head head.now).params s first
         (λ args. enters_routine s routine start (H.head head.now) args)) }
-    ensures past { (M.picture registers.new.memory).past ≡ (M.picture registers.old.memory).past }
 {
     match arguments(&registers.memory, head, first, &mut registers.args)? {
         Some(fault) => Ok(registers.end(End::Fault(fault))),
@@ -115,11 +113,10 @@ pub fn call<M: MachineMemory, H: Head>(
 #[tactic(auto, using(crate::proofs::Given::returns))]
 pub fn leave<M: MachineMemory>(registers: &mut Registers<M>) -> Result<Step, NoMemory>
     requires { 1 ≤ length (M.picture registers.old.memory).now }
-    ensures acts { let s = state_of M.picture registers.old in
-        Acts s (state_of M.picture registers.new) result
+    ensures { let s = state_of M.picture registers.old in
+        Acts M.picture registers.old registers.new result
         (if_true (nat_eq (length s.now) 1) (λ _. ends_run end.Succeeded s)
         (λ _. answers_return (state_after_leave s))) }
-    ensures past { (M.picture registers.new.memory).past ≡ (M.picture registers.old.memory).past }
 {
     if registers.memory.frames() == 1 {
         return Ok(registers.end(End::Succeeded));
@@ -136,12 +133,11 @@ pub fn leave_with<M: MachineMemory, V: CodeView>(
 ) -> Result<Step, NoMemory>
     requires slot { HasNumber (M.picture registers.old.memory).now value }
     requires back { CallsBack (V.code view.now) (M.picture registers.old.memory).now }
-    ensures acts { let s = state_of M.picture registers.old in
-        Acts s (state_of M.picture registers.new) result
+    ensures { let s = state_of M.picture registers.old in
+        Acts M.picture registers.old registers.new result
         (number s value
         (λ v. result_to (slice_get (V.code view.now).instrs ((last_frame s.now).back - 1))
         (state_after_leave s) v)) }
-    ensures past { (M.picture registers.new.memory).past ≡ (M.picture registers.old.memory).past }
 {
     let number = registers.number(value);
     give_back(registers, view, number)
@@ -155,11 +151,10 @@ fn give_back<M: MachineMemory, V: CodeView>(
     number: Result<i64, RunFault>,
 ) -> Result<Step, NoMemory>
     requires { CallsBack (V.code view.now) (M.picture registers.old.memory).now }
-    ensures acts { let s = state_of M.picture registers.old in
-        Acts s (state_of M.picture registers.new) result
+    ensures { let s = state_of M.picture registers.old in
+        Acts M.picture registers.old registers.new result
         (back_or_fault
         (slice_get (V.code view.now).instrs ((last_frame s.now).back - 1)) s number) }
-    ensures past { (M.picture registers.new.memory).past ≡ (M.picture registers.old.memory).past }
 {
     let number = match number {
         Ok(number) => number,

@@ -1,5 +1,4 @@
 // The cells at places: read, stored and bound.
-ghost use Rattle.std.specs.Prelude.{◌≡◌};
 ghost use Rattle.alma_code.specs.Machine.{number, place, content, store, binds_content, with_known_content, is_known, quiet_step};
 ghost use Rattle.alma_base.specs.Numbers.{bit};
 ghost use Rattle.alma_machine_acts.specs.Acts.{Acts};
@@ -16,9 +15,8 @@ impl<M: MachineMemory> Registers<M> {
     #[tactic(auto, using(crate::proofs::Words::store_is))]
     pub fn set(&mut self, frame: u32, slot: u32, number: i64) -> Result<Step, NoMemory>
         requires { HasNumberIn (M.picture self.old.memory).now frame slot }
-        ensures acts { Acts (state_of M.picture self.old) (state_of M.picture self.new) result
+        ensures { Acts M.picture self.old self.new result
             (store (state_of M.picture self.old) frame slot number quiet_step) }
-        ensures past { (M.picture self.new.memory).past ≡ (M.picture self.old.memory).past }
     {
         self.memory.write(frame, slot, Cell::Int(number))?;
         Ok(Step::Went)
@@ -29,10 +27,9 @@ impl<M: MachineMemory> Registers<M> {
     pub fn store(&mut self, to: u32, from: u32) -> Result<Step, NoMemory>
         requires to { HasOneCell (M.picture self.old.memory).now to }
         requires from { HasNumber (M.picture self.old.memory).now from }
-        ensures acts { let s = state_of M.picture self.old in
-            Acts s (state_of M.picture self.new) result
+        ensures { let s = state_of M.picture self.old in
+            Acts M.picture self.old self.new result
             (place s to (λ p. number s from (λ v. store s p.frame p.slot v quiet_step))) }
-        ensures past { (M.picture self.new.memory).past ≡ (M.picture self.old.memory).past }
     {
         let place = match self.place(to) {
             Ok(place) => place,
@@ -70,10 +67,9 @@ impl<M: MachineMemory> Registers<M> {
         number: i64,
     ) -> Result<Step, NoMemory>
         requires { HasNumberIn (M.picture self.old.memory).now place.frame place.slot }
-        ensures acts { let s = state_of M.picture self.old in
-            Acts s (state_of M.picture self.new) result
+        ensures { let s = state_of M.picture self.old in
+            Acts M.picture self.old self.new result
             (content s place.frame place.slot (λ u. binds_content s place range.now number u)) }
-        ensures past { (M.picture self.new.memory).past ≡ (M.picture self.old.memory).past }
     {
         match self.content(place.frame, place.slot) {
             Some(with_known_content) => {
@@ -96,11 +92,10 @@ impl<M: MachineMemory> Registers<M> {
     pub fn bind(&mut self, to: u32, value: u32, range: &Range) -> Result<Step, NoMemory>
         requires to { HasOneCell (M.picture self.old.memory).now to }
         requires value { HasNumber (M.picture self.old.memory).now value }
-        ensures acts { let s = state_of M.picture self.old in
-            Acts s (state_of M.picture self.new) result
+        ensures { let s = state_of M.picture self.old in
+            Acts M.picture self.old self.new result
             (place s to (λ p. number s value
             (λ v. content s p.frame p.slot (λ u. binds_content s p range.now v u)))) }
-        ensures past { (M.picture self.new.memory).past ≡ (M.picture self.old.memory).past }
     {
         let place = match self.place(to) {
             Ok(place) => place,

@@ -3,7 +3,7 @@ ghost use Rattle.std.specs.Prelude.{◌≡◌, ◌≢◌, ◌+◌, ◌<◌, ◌�
 ghost use Rattle.alma_code.specs.declared.cell.Cell.TheVariants as cell;
 ghost use Rattle.alma_code.specs.declared.cell.ChoiceKind.TheVariants as choice;
 ghost use Rattle.alma_code.specs.Machine.{answer_of_push, state_after_push, put_mark, mark, cut_to, pop, to_mark, kind_of, with_slot, is_forall_at, overlay, keep, finish};
-ghost use Rattle.alma_machine_acts.specs.Acts.{Acts, Makes};
+ghost use Rattle.alma_machine_acts.specs.Acts.{Acts, Makes, KeepsPast};
 ghost use Rattle.alma_machine_acts.specs.Rows.{state_of, HasMark, GivesMark};
 
 use crate::registers::{Mode, Registers};
@@ -30,9 +30,8 @@ pub fn mark<M: MachineMemory>(registers: &Registers<M>, slot: u32) -> Result<usi
 #[tactic(auto, using(crate::proofs::Entries::put_marks))]
 pub fn set_mark<M: MachineMemory>(registers: &mut Registers<M>, to: u32) -> Result<Step, NoMemory>
     requires { HasMark (M.picture registers.old.memory).now to }
-    ensures acts { let s = state_of M.picture registers.old in
-        Acts s (state_of M.picture registers.new) result (put_mark s to (length s.held)) }
-    ensures past { (M.picture registers.new.memory).past ≡ (M.picture registers.old.memory).past }
+    ensures { let s = state_of M.picture registers.old in
+        Acts M.picture registers.old registers.new result (put_mark s to (length s.held)) }
 {
     let height = registers.memory.height();
     registers.write(to, Cell::Mark(height))
@@ -47,10 +46,9 @@ pub fn choose<M: MachineMemory>(
 ) -> Result<Step, NoMemory>
     requires kind { kind ≢ ChoiceKind.Done }
     requires few { registers.old.choices + 1 < 2 ^ 63 }
-    ensures acts { Acts (state_of M.picture registers.old) (state_of M.picture registers.new) result
+    ensures acts { Acts M.picture registers.old registers.new result
         (answer_of_push (state_after_push (state_of M.picture registers.old) kind resume)) }
     ensures succeeds { 1 ≤ (M.picture registers.old.memory).choice_room → IsOk result }
-    ensures past { (M.picture registers.new.memory).past ≡ (M.picture registers.old.memory).past }
 {
     registers.memory.choose(kind, resume)?;
     registers.choices += 1;
@@ -61,9 +59,8 @@ pub fn choose<M: MachineMemory>(
 #[tactic(auto, using(crate::proofs::Entries::cuts))]
 pub fn cut<M: MachineMemory>(registers: &mut Registers<M>, slot: u32) -> Step
     requires { HasMark (M.picture registers.old.memory).now slot }
-    ensures made { let s = state_of M.picture registers.old in
-        Makes s (state_of M.picture registers.new) result (mark s slot (λ h. cut_to s h)) }
-    ensures past { (M.picture registers.new.memory).past ≡ (M.picture registers.old.memory).past }
+    ensures { let s = state_of M.picture registers.old in
+        Makes M.picture registers.old registers.new result (mark s slot (λ h. cut_to s h)) }
 {
     match mark(registers, slot) {
         Ok(height) => {
@@ -82,9 +79,8 @@ pub fn cut<M: MachineMemory>(registers: &mut Registers<M>, slot: u32) -> Step
 #[tactic(auto, using(crate::proofs::Entries::pops))]
 pub fn pop<M: MachineMemory>(registers: &mut Registers<M>) -> Step
     requires few { registers.old.fails + 1 < 2 ^ 63 }
-    ensures made { Makes (state_of M.picture registers.old) (state_of M.picture registers.new)
-        result (pop (state_of M.picture registers.old)) }
-    ensures past { (M.picture registers.new.memory).past ≡ (M.picture registers.old.memory).past }
+    ensures { Makes M.picture registers.old registers.new result
+        (pop (state_of M.picture registers.old)) }
 {
     let height = registers.memory.height();
     match registers.memory.fail() {
@@ -107,12 +103,11 @@ pub fn forall<M: MachineMemory>(
 ) -> Result<Step, NoMemory>
     requires mark { HasMark (M.picture registers.old.memory).now slot }
     requires few { registers.old.choices + 1 < 2 ^ 63 }
-    ensures acts { let s = state_of M.picture registers.old in
-        Acts s (state_of M.picture registers.new) result
+    ensures { let s = state_of M.picture registers.old in
+        Acts M.picture registers.old registers.new result
         (to_mark (kind_of s slot) s
         (λ _. answer_of_push (with_slot (state_after_push s choice.Forall resume) slot
         (cell.Mark (length s.held + 1))))) }
-    ensures past { (M.picture registers.new.memory).past ≡ (M.picture registers.old.memory).past }
 {
     registers.memory.reserve(1, 1)?;
     let frame = registers.memory.frames() - 1;
@@ -149,7 +144,7 @@ fn lay_over<M: MachineMemory>(registers: &mut Registers<M>, height: usize) -> Re
     ensures choices { registers.new.choices ≡ registers.old.choices }
     ensures refused { OnErr result
         (state_of M.picture registers.new ≡ state_of M.picture registers.old) }
-    ensures past { (M.picture registers.new.memory).past ≡ (M.picture registers.old.memory).past }
+    ensures past { KeepsPast M.picture registers.old registers.new }
 {
     registers.memory.reserve(1, 0)?;
     if has_forall(registers, height) {
@@ -166,10 +161,9 @@ pub fn begin_body<M: MachineMemory>(
 ) -> Result<Step, NoMemory>
     requires mark { HasMark (M.picture registers.old.memory).now slot }
     requires few { registers.old.choices + 1 < 2 ^ 63 }
-    ensures acts { let s = state_of M.picture registers.old in
-        Acts s (state_of M.picture registers.new) result
+    ensures { let s = state_of M.picture registers.old in
+        Acts M.picture registers.old registers.new result
         (mark s slot (λ h. answer_of_push (state_after_push (overlay s h) choice.Body resume))) }
-    ensures past { (M.picture registers.new.memory).past ≡ (M.picture registers.old.memory).past }
 {
     match mark(registers, slot) {
         Ok(height) => {
@@ -186,9 +180,8 @@ pub fn begin_body<M: MachineMemory>(
 // Keeps the Body on top in the Forall at a height below it, where they are there.
 #[tactic(auto, using(crate::proofs::Entries::keeps))]
 fn keep_at<M: MachineMemory>(registers: &mut Registers<M>, height: usize) -> Result<Step, NoMemory>
-    ensures acts { Acts (state_of M.picture registers.old) (state_of M.picture registers.new) result
+    ensures { Acts M.picture registers.old registers.new result
         (keep (state_of M.picture registers.old) height) }
-    ensures past { (M.picture registers.new.memory).past ≡ (M.picture registers.old.memory).past }
 {
     let top = registers.memory.height();
     if registers.memory.kind_at(height) == Some(ChoiceKind::Forall)
@@ -204,9 +197,8 @@ fn keep_at<M: MachineMemory>(registers: &mut Registers<M>, height: usize) -> Res
 /// Keeps the Body on top in the Forall whose height is in a slot.
 pub fn keep<M: MachineMemory>(registers: &mut Registers<M>, slot: u32) -> Result<Step, NoMemory>
     requires { HasMark (M.picture registers.old.memory).now slot }
-    ensures acts { let s = state_of M.picture registers.old in
-        Acts s (state_of M.picture registers.new) result (mark s slot (λ h. keep s h)) }
-    ensures past { (M.picture registers.new.memory).past ≡ (M.picture registers.old.memory).past }
+    ensures { let s = state_of M.picture registers.old in
+        Acts M.picture registers.old registers.new result (mark s slot (λ h. keep s h)) }
 {
     match mark(registers, slot) {
         Ok(height) => keep_at(registers, height),
@@ -217,9 +209,8 @@ pub fn keep<M: MachineMemory>(registers: &mut Registers<M>, slot: u32) -> Result
 /// Drops the Done on top and lays its carry over the frames, where there is one.
 #[tactic(auto, using(crate::proofs::Entries::finishes))]
 pub fn finish<M: MachineMemory>(registers: &mut Registers<M>) -> Result<Step, NoMemory>
-    ensures acts { Acts (state_of M.picture registers.old) (state_of M.picture registers.new) result
+    ensures { Acts M.picture registers.old registers.new result
         (finish (state_of M.picture registers.old)) }
-    ensures past { (M.picture registers.new.memory).past ≡ (M.picture registers.old.memory).past }
 {
     if registers.memory.kind_at(registers.memory.height()) == Some(ChoiceKind::Done) {
         registers.memory.finish()?;

@@ -1,5 +1,4 @@
 // Jumps, tests, and loops that count.
-ghost use Rattle.std.specs.Prelude.{◌≡◌};
 ghost use Rattle.alma_base.specs.Choice.{if_true};
 ghost use Rattle.alma_base.specs.declared.fault.RunFault.TheVariants as fault;
 ghost use Rattle.alma_base.specs.Numbers.{is_zero};
@@ -17,10 +16,9 @@ impl<M: MachineMemory> Registers<M> {
     #[tactic(auto, using(crate::proofs::Words::tests, std::proofs::lemmas::Int::ints, std::proofs::lemmas::Grind::common_steps))]
     pub fn jump_zero(&mut self, value: u32, to: u32) -> Step
         requires { HasNumber (M.picture self.old.memory).now value }
-        ensures made { let s = state_of M.picture self.old in
-            Makes s (state_of M.picture self.new) result
+        ensures { let s = state_of M.picture self.old in
+            Makes M.picture self.old self.new result
             (number s value (λ v. if_true (is_zero v) (λ _. goes_to to s) (λ _. quiet_step s))) }
-        ensures past { (M.picture self.new.memory).past ≡ (M.picture self.old.memory).past }
     {
         match self.number(value) {
             Ok(number) => {
@@ -37,10 +35,9 @@ impl<M: MachineMemory> Registers<M> {
     #[tactic(auto, using(crate::proofs::Words::tests, std::proofs::lemmas::Int::ints, std::proofs::lemmas::Grind::common_steps))]
     pub fn check(&mut self, value: u32) -> Step
         requires { HasNumber (M.picture self.old.memory).now value }
-        ensures made { let s = state_of M.picture self.old in
-            Makes s (state_of M.picture self.new) result
+        ensures { let s = state_of M.picture self.old in
+            Makes M.picture self.old self.new result
             (number s value (λ v. if_true (is_zero v) (λ _. fails_now s) (λ _. quiet_step s))) }
-        ensures past { (M.picture self.new.memory).past ≡ (M.picture self.old.memory).past }
     {
         match self.number(value) {
             Ok(number) => {
@@ -57,10 +54,9 @@ impl<M: MachineMemory> Registers<M> {
     #[tactic(auto, using(std::proofs::lemmas::Int::ints, std::proofs::lemmas::Grind::common_steps))]
     pub fn in_range(&mut self, value: u32, range: &Range) -> Step
         requires { HasNumber (M.picture self.old.memory).now value }
-        ensures made { let s = state_of M.picture self.old in
-            Makes s (state_of M.picture self.new) result
+        ensures { let s = state_of M.picture self.old in
+            Makes M.picture self.old self.new result
             (number s value (λ v. range_check range.now fault.Range s v (λ _. quiet_step s))) }
-        ensures past { (M.picture self.new.memory).past ≡ (M.picture self.old.memory).past }
     {
         match self.number_within(value, range, RunFault::Range) {
             Ok(_) => Step::Went,
@@ -74,10 +70,9 @@ impl<M: MachineMemory> Registers<M> {
         requires counter { HasNumber (M.picture self.old.memory).now counter }
         requires limit { HasNumber (M.picture self.old.memory).now limit }
         requires by { HasNumber (M.picture self.old.memory).now by }
-        ensures acts { let s = state_of M.picture self.old in
-            Acts s (state_of M.picture self.new) result
+        ensures { let s = state_of M.picture self.old in
+            Acts M.picture self.old self.new result
             (count_on s counter limit by (goes_to out s) (put_number s counter)) }
-        ensures past { (M.picture self.new.memory).past ≡ (M.picture self.old.memory).past }
     {
         match self.next(counter, limit, by) {
             Ok(Some(next)) => self.put(counter, Ok(next)),

@@ -35,9 +35,8 @@ fn lay<M: MachineMemory>(registers: &mut Registers<M>, to: Spot, cells: &[Cell])
         (length cells.now) }
     requires contents { All IsContent cells.now }
     requires room { length cells.now ≤ (M.picture registers.old.memory).trail_room }
-    ensures made { Makes (state_of M.picture registers.old) (state_of M.picture registers.new)
-        result (lay cells.now (state_of M.picture registers.old) to.frame to.slot) }
-    ensures past { (M.picture registers.new.memory).past ≡ (M.picture registers.old.memory).past }
+    ensures { Makes M.picture registers.old registers.new result
+        (lay cells.now (state_of M.picture registers.old) to.frame to.slot) }
 {
     for k in 0..cells.len() {
         let written = registers
@@ -61,10 +60,9 @@ fn copy<M: MachineMemory>(
 ) -> Result<Step, NoMemory>
     requires to { AreNumbers (M.picture registers.old.memory).now to.frame to.slot count }
     requires from { AreNumbers (M.picture registers.old.memory).now from.frame from.slot count }
-    ensures acts { let s = state_of M.picture registers.old in
-        Acts s (state_of M.picture registers.new) result
+    ensures { let s = state_of M.picture registers.old in
+        Acts M.picture registers.old registers.new result
         (copies_cells count s.now s to.frame to.slot from.frame from.slot) }
-    ensures past { (M.picture registers.new.memory).past ≡ (M.picture registers.old.memory).past }
 {
     let cells = cells(registers, from, count)?;
     registers.memory.reserve(0, count as usize)?;
@@ -82,11 +80,10 @@ pub fn copy_cells<M: MachineMemory>(
     requires from { HasCells (M.picture registers.old.memory).now from }
     requires alike { width (M.picture registers.old.memory).now to
         ≡ width (M.picture registers.old.memory).now from }
-    ensures acts { let s = state_of M.picture registers.old in
-        Acts s (state_of M.picture registers.new) result
+    ensures { let s = state_of M.picture registers.old in
+        Acts M.picture registers.old registers.new result
         (place s to (λ p. place s from
         (λ q. copies_cells p.len s.now s p.frame p.slot q.frame q.slot))) }
-    ensures past { (M.picture registers.new.memory).past ≡ (M.picture registers.old.memory).past }
 {
     let to = match registers.place(to) {
         Ok(place) => place,

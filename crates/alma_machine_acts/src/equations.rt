@@ -1,9 +1,9 @@
 // Equations of two cells, and of the cells of two places, one after another.
-ghost use Rattle.std.specs.Prelude.{◌≡◌, ◌+◌, ◌<◌, ◌≤◌, Some, None, IfOk, OnErr, IsOk};
+ghost use Rattle.std.specs.Prelude.{◌≡◌, ◌+◌, ◌<◌, ◌≤◌, Some, None};
 ghost use Rattle.alma_code.specs.Machine.{place, equation_of_contents, equation, equations, quiet_step};
 ghost use Rattle.alma_machine_acts.specs.Acts.{Acts, Makes};
-ghost use Rattle.alma_machine_acts.specs.Rows.{state_of, HasCells, HasOneCell, HasNumberIn, KeepsNumbers, width, AreNumbers};
-ghost use Rattle.alma_machine_acts.specs.Meets.{Meets, MeetsOn, give_number};
+ghost use Rattle.alma_machine_acts.specs.Rows.{state_of, HasCells, HasOneCell, HasNumberIn, width, AreNumbers};
+ghost use Rattle.alma_machine_acts.specs.Meets.{Equates, WritesOne, give_number};
 
 use crate::places::Spot;
 use crate::registers::Registers;
@@ -23,17 +23,10 @@ impl<M: MachineMemory> Registers<M> {
     #[tactic(auto, using(crate::proofs::Words::store_is, crate::proofs::Words::ranges, crate::proofs::Stays::number_stays, std::proofs::lemmas::Int::ints, std::proofs::lemmas::Grind::common_steps))]
     fn give(&mut self, to: Spot, range: Option<Range>, known: Option<i64>) -> Result<Met, NoMemory>
         requires { HasNumberIn (M.picture self.old.memory).now to.frame to.slot }
-        ensures ok { let s = state_of M.picture self.old in IfOk result (λ met. Meets met
-            (λ k. give_number s to.frame to.slot range known k) (state_of M.picture self.new)) }
-        ensures kept { IfOk result
-            (λ met. MeetsOn met (state_of M.picture self.old) (state_of M.picture self.new)) }
-        ensures refused { OnErr result (state_of M.picture self.new ≡ state_of M.picture self.old) }
-        ensures stays { KeepsNumbers (M.picture self.old.memory).now
-            (M.picture self.new.memory).now }
-        ensures succeeds { 1 ≤ (M.picture self.old.memory).trail_room → IsOk result }
-        ensures room { (M.picture self.old.memory).trail_room
-            ≤ (M.picture self.new.memory).trail_room + 1 }
-        ensures past { (M.picture self.new.memory).past ≡ (M.picture self.old.memory).past }
+        ensures equates { let s = state_of M.picture self.old in
+            Equates M.picture self.old self.new result
+            (λ k. give_number s to.frame to.slot range known k) }
+        ensures writes { WritesOne M.picture self.old self.new result }
     {
         let Some(number) = known else {
             return Ok(Met::Ends(self.end(End::Fault(RunFault::Unknown))));
@@ -60,19 +53,11 @@ impl<M: MachineMemory> Registers<M> {
     ) -> Result<Met, NoMemory>
         requires left { HasNumberIn (M.picture self.old.memory).now left.frame left.slot }
         requires right { HasNumberIn (M.picture self.old.memory).now right.frame right.slot }
-        ensures ok { let s = state_of M.picture self.old in
-            IfOk result (λ met. Meets met
-            (λ k. equation_of_contents s left.frame left.slot left_range left_known right.frame
-            right.slot right_range right_known k) (state_of M.picture self.new)) }
-        ensures kept { IfOk result
-            (λ met. MeetsOn met (state_of M.picture self.old) (state_of M.picture self.new)) }
-        ensures refused { OnErr result (state_of M.picture self.new ≡ state_of M.picture self.old) }
-        ensures stays { KeepsNumbers (M.picture self.old.memory).now
-            (M.picture self.new.memory).now }
-        ensures succeeds { 1 ≤ (M.picture self.old.memory).trail_room → IsOk result }
-        ensures room { (M.picture self.old.memory).trail_room
-            ≤ (M.picture self.new.memory).trail_room + 1 }
-        ensures past { (M.picture self.new.memory).past ≡ (M.picture self.old.memory).past }
+        ensures equates { let s = state_of M.picture self.old in
+            Equates M.picture self.old self.new result
+            (λ k. equation_of_contents s left.frame left.slot left_range left_known
+            right.frame right.slot right_range right_known k) }
+        ensures writes { WritesOne M.picture self.old self.new result }
     {
         match (left_known, right_known) {
             (Some(x), Some(y)) => {
@@ -97,19 +82,11 @@ impl<M: MachineMemory> Registers<M> {
     ) -> Result<Met, NoMemory>
         requires left { HasNumberIn (M.picture self.old.memory).now left.frame left.slot }
         requires right { HasNumberIn (M.picture self.old.memory).now right.frame right.slot }
-        ensures ok { let s = state_of M.picture self.old in
-            IfOk result (λ met. Meets met
-            (λ k. equation s left.frame left.slot left_range right.frame right.slot right_range
-            k) (state_of M.picture self.new)) }
-        ensures kept { IfOk result
-            (λ met. MeetsOn met (state_of M.picture self.old) (state_of M.picture self.new)) }
-        ensures refused { OnErr result (state_of M.picture self.new ≡ state_of M.picture self.old) }
-        ensures stays { KeepsNumbers (M.picture self.old.memory).now
-            (M.picture self.new.memory).now }
-        ensures succeeds { 1 ≤ (M.picture self.old.memory).trail_room → IsOk result }
-        ensures room { (M.picture self.old.memory).trail_room
-            ≤ (M.picture self.new.memory).trail_room + 1 }
-        ensures past { (M.picture self.new.memory).past ≡ (M.picture self.old.memory).past }
+        ensures equates { let s = state_of M.picture self.old in
+            Equates M.picture self.old self.new result
+            (λ k. equation s left.frame left.slot left_range
+            right.frame right.slot right_range k) }
+        ensures writes { WritesOne M.picture self.old self.new result }
     {
         let left_known = self.content(left.frame, left.slot);
         let right_known = self.content(right.frame, right.slot);
@@ -134,12 +111,11 @@ impl<M: MachineMemory> Registers<M> {
     ) -> Result<Step, NoMemory>
         requires left { HasOneCell (M.picture self.old.memory).now left }
         requires right { HasOneCell (M.picture self.old.memory).now right }
-        ensures acts { let s = state_of M.picture self.old in
-            Acts s (state_of M.picture self.new) result
+        ensures { let s = state_of M.picture self.old in
+            Acts M.picture self.old self.new result
             (place s left (λ p. place s right
             (λ q. equation s p.frame p.slot (Some left_range)
             q.frame q.slot (Some right_range) quiet_step))) }
-        ensures past { (M.picture self.new.memory).past ≡ (M.picture self.old.memory).past }
     {
         let left = match self.place(left) {
             Ok(place) => place,
@@ -169,10 +145,9 @@ impl<M: MachineMemory> Registers<M> {
         requires left { AreNumbers (M.picture self.old.memory).now left.frame left.slot count }
         requires right { AreNumbers (M.picture self.old.memory).now right.frame right.slot count }
         requires room { count ≤ (M.picture self.old.memory).trail_room }
-        ensures made { Makes (state_of M.picture self.old) (state_of M.picture self.new) result
+        ensures { Makes M.picture self.old self.new result
             (equations count (state_of M.picture self.old)
             left.frame left.slot right.frame right.slot) }
-        ensures past { (M.picture self.new.memory).past ≡ (M.picture self.old.memory).past }
     {
         for k in 0..count {
             let first = Spot {
@@ -199,11 +174,10 @@ impl<M: MachineMemory> Registers<M> {
         requires right { HasCells (M.picture self.old.memory).now right }
         requires alike { width (M.picture self.old.memory).now left
             ≡ width (M.picture self.old.memory).now right }
-        ensures acts { let s = state_of M.picture self.old in
-            Acts s (state_of M.picture self.new) result
+        ensures { let s = state_of M.picture self.old in
+            Acts M.picture self.old self.new result
             (place s left (λ p. place s right
             (λ q. equations p.len s p.frame p.slot q.frame q.slot))) }
-        ensures past { (M.picture self.new.memory).past ≡ (M.picture self.old.memory).past }
     {
         let left = match self.place(left) {
             Ok(place) => place,

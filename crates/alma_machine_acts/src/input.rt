@@ -64,9 +64,8 @@ fn take<M: MachineMemory>(
     requires below { IsBelow read }
     requires position { HasNumberIn (M.picture registers.old.memory).now 0 0 }
     requires place { HasNumberIn (M.picture registers.old.memory).now place.frame place.slot }
-    ensures acts { Acts (state_of M.picture registers.old) (state_of M.picture registers.new) result
+    ensures { Acts M.picture registers.old registers.new result
         (takes_read (state_of M.picture registers.old) range.now place read) }
-    ensures past { (M.picture registers.new.memory).past ≡ (M.picture registers.old.memory).past }
 {
     match read {
         ReadInt::NoNumber => Ok(registers.fail()),
@@ -102,10 +101,9 @@ pub fn read_number<M: MachineMemory>(
     requires lawful { length input.now ≤ input_limit }
     requires position { HasPosition (M.picture registers.old.memory).now }
     requires to { HasOneCell (M.picture registers.old.memory).now to }
-    ensures acts { let s = state_of M.picture registers.old in
-        Acts s (state_of M.picture registers.new) result
+    ensures { let s = state_of M.picture registers.old in
+        Acts M.picture registers.old registers.new result
         (place s to (λ p. position s (λ n. takes_read s range.now p (number_from input.now n)))) }
-    ensures past { (M.picture registers.new.memory).past ≡ (M.picture registers.old.memory).past }
 {
     match registers.place(to) {
         Ok(place) => {
@@ -127,11 +125,10 @@ pub fn read_char<M: MachineMemory>(
     requires lawful { length input.now ≤ input_limit }
     requires position { HasPosition (M.picture registers.old.memory).now }
     requires to { HasOneCell (M.picture registers.old.memory).now to }
-    ensures acts { let s = state_of M.picture registers.old in
-        Acts s (state_of M.picture registers.new) result
+    ensures { let s = state_of M.picture registers.old in
+        Acts M.picture registers.old registers.new result
         (place s to (λ p. position s
         (λ n. byte_or_failure s range.now p n (slice_get input.now n)))) }
-    ensures past { (M.picture registers.new.memory).past ≡ (M.picture registers.old.memory).past }
 {
     match registers.place(to) {
         Ok(place) => {

@@ -41,9 +41,8 @@ impl<M: MachineMemory> Registers<M> {
     #[tactic(auto, using(crate::proofs::Held::put_links))]
     pub fn put_link(&mut self, to: u32, frame: Result<u32, RunFault>) -> Result<Step, NoMemory>
         requires { HasLinkTo (M.picture self.old.memory).now to }
-        ensures acts { Acts (state_of M.picture self.old) (state_of M.picture self.new) result
+        ensures { Acts M.picture self.old self.new result
             (link_or_fault (state_of M.picture self.old) to frame) }
-        ensures past { (M.picture self.new.memory).past ≡ (M.picture self.old.memory).past }
     {
         match frame {
             Ok(frame) => {

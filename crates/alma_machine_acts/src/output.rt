@@ -44,10 +44,9 @@ pub fn print_number<M: MachineMemory>(
 ) -> Result<Step, NoMemory>
     requires slot { HasNumber (M.picture registers.old.memory).now value }
     requires empty { bytes.old.items ≡ [] }
-    ensures acts { let s = state_of M.picture registers.old in
-        ActsWith s (state_of M.picture registers.new) bytes.new.items result
+    ensures { let s = state_of M.picture registers.old in
+        ActsWith M.picture registers.old registers.new bytes.new.items result
         (number s value (λ v. prints_bytes (value_text (kind.Int v)) s)) }
-    ensures past { (M.picture registers.new.memory).past ≡ (M.picture registers.old.memory).past }
 {
     match registers.number(value) {
         Ok(number) => {
@@ -67,10 +66,9 @@ pub fn print_truth<M: MachineMemory>(
 ) -> Result<Step, NoMemory>
     requires slot { HasNumber (M.picture registers.old.memory).now value }
     requires empty { bytes.old.items ≡ [] }
-    ensures acts { let s = state_of M.picture registers.old in
-        ActsWith s (state_of M.picture registers.new) bytes.new.items result
+    ensures { let s = state_of M.picture registers.old in
+        ActsWith M.picture registers.old registers.new bytes.new.items result
         (number s value (λ v. prints_bytes (value_text (kind.Bool (not (is_zero v)))) s)) }
-    ensures past { (M.picture registers.new.memory).past ≡ (M.picture registers.old.memory).past }
 {
     match registers.number(value) {
         Ok(number) => {
@@ -90,11 +88,10 @@ pub fn print_character<M: MachineMemory>(
 ) -> Result<Step, NoMemory>
     requires slot { HasNumber (M.picture registers.old.memory).now value }
     requires empty { bytes.old.items ≡ [] }
-    ensures acts { let s = state_of M.picture registers.old in
-        ActsWith s (state_of M.picture registers.new) bytes.new.items result
+    ensures { let s = state_of M.picture registers.old in
+        ActsWith M.picture registers.old registers.new bytes.new.items result
         (number s value
         (λ v. prints_bytes (value_text (kind.Char (nat_abs (int_rem_euclid v (pos 256))))) s)) }
-    ensures past { (M.picture registers.new.memory).past ≡ (M.picture registers.old.memory).past }
 {
     match registers.number(value) {
         Ok(number) => {

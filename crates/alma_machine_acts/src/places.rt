@@ -51,9 +51,8 @@ impl<M: MachineMemory> Registers<M> {
     #[tactic(auto, using(crate::proofs::Parts::put_place_is, crate::proofs::Parts::place_is_slot))]
     pub fn put_place(&mut self, to: u32, frame: u32, first: u32) -> Result<Step, NoMemory>
         requires { HasPlace (M.picture self.old.memory).now to }
-        ensures acts { Acts (state_of M.picture self.old) (state_of M.picture self.new) result
+        ensures { Acts M.picture self.old self.new result
             (put_place (state_of M.picture self.old) to frame (λ _. first)) }
-        ensures past { (M.picture self.new.memory).past ≡ (M.picture self.old.memory).past }
     {
         let len = self.place_length(to);
         let place = CellPlace {
@@ -67,9 +66,8 @@ impl<M: MachineMemory> Registers<M> {
     /// Puts the place that begins at a spot into a place slot, or ends the run in its fault.
     pub fn point(&mut self, to: u32, spot: Result<Spot, RunFault>) -> Result<Step, NoMemory>
         requires { HasPlace (M.picture self.old.memory).now to }
-        ensures acts { Acts (state_of M.picture self.old) (state_of M.picture self.new) result
+        ensures { Acts M.picture self.old self.new result
             (point_or_fault (state_of M.picture self.old) to spot) }
-        ensures past { (M.picture self.new.memory).past ≡ (M.picture self.old.memory).past }
     {
         match spot {
             Ok(spot) => self.put_place(to, spot.frame, spot.slot),

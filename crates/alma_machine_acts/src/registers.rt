@@ -36,7 +36,7 @@ pub struct Registers<M: MachineMemory> {
 impl<M: MachineMemory> Registers<M> {
     /// Ends the run.
     pub fn end(&mut self, end: End) -> Step
-        ensures made { Makes (state_of M.picture self.old) (state_of M.picture self.new) result
+        ensures made { Makes M.picture self.old self.new result
             (ends_run end (state_of M.picture self.old)) }
         ensures memory { self.new.memory ≡ self.old.memory }
     {
@@ -46,7 +46,7 @@ impl<M: MachineMemory> Registers<M> {
 
     /// Goes to an address.
     pub fn jump(&mut self, to: u32) -> Step
-        ensures made { Makes (state_of M.picture self.old) (state_of M.picture self.new) result
+        ensures made { Makes M.picture self.old self.new result
             (goes_to to (state_of M.picture self.old)) }
         ensures memory { self.new.memory ≡ self.old.memory }
     {
@@ -56,7 +56,7 @@ impl<M: MachineMemory> Registers<M> {
 
     /// Fails.
     pub fn fail(&mut self) -> Step
-        ensures made { Makes (state_of M.picture self.old) (state_of M.picture self.new) result
+        ensures made { Makes M.picture self.old self.new result
             (fails_now (state_of M.picture self.old)) }
         ensures memory { self.new.memory ≡ self.old.memory }
     {
@@ -68,9 +68,8 @@ impl<M: MachineMemory> Registers<M> {
     #[inline(always)]
     pub fn write(&mut self, to: u32, cell: Cell) -> Result<Step, NoMemory>
         requires { HasSlot (M.picture self.old.memory).now to }
-        ensures acts { Acts (state_of M.picture self.old) (state_of M.picture self.new) result
+        ensures { Acts M.picture self.old self.new result
             (quiet_step (with_slot (state_of M.picture self.old) to cell)) }
-        ensures past { (M.picture self.new.memory).past ≡ (M.picture self.old.memory).past }
     {
         self.memory.put(to, cell)?;
         Ok(Step::Went)
@@ -80,9 +79,8 @@ impl<M: MachineMemory> Registers<M> {
     #[tactic(auto, using(crate::proofs::Words::puts))]
     pub fn put(&mut self, to: u32, number: Result<i64, RunFault>) -> Result<Step, NoMemory>
         requires { HasNumber (M.picture self.old.memory).now to }
-        ensures acts { Acts (state_of M.picture self.old) (state_of M.picture self.new) result
+        ensures { Acts M.picture self.old self.new result
             (put_or_fault (state_of M.picture self.old) to number) }
-        ensures past { (M.picture self.new.memory).past ≡ (M.picture self.old.memory).past }
     {
         match number {
             Ok(number) => self.write(to, Cell::Int(number)),

@@ -15,16 +15,14 @@ act_input-requires g c =
       limits = c.requires.limits;
     }
 
-pub returns-in-Some-clause-acts : goal.returns-in-Some-clause-acts
-returns-in-Some-clause-acts g c =
+pub returns-in-Some : goal.returns-in-Some
+returns-in-Some g c =
     let code = g.V.CodeView.code c.args.view.now in
     let s = state_of g.M.MachineMemory.picture c.args.registers.now in
     let head = g.V.Routine.Head.head c.in-Some.head in
     let r = c.in-Call.routine in
     let first = c.in-Call.first in
-    acts_is c.call.result s (state_of g.M.MachineMemory.picture c.call.new.registers)
-    (arguments head.params s first (λ args. enters_routine s r c.start.result head args)) (act code c.args.input.now c.args.instr s)
-    c.call.ensures.acts
+    acts_is _ _ _ _ c.call.ensures
     (ap (λ start. arguments head.params s first (λ args. enters_routine s r start head args)) c.start.ensures
     ∙ call_is code c.args.input.now r first c.in-Call.to s head c.in-Some.ensures
     ∙ sym (ap (λ i. act code c.args.input.now i s) c.in-Call.is))

@@ -17,6 +17,6 @@ returns c =
     let r = c.args.range.now in
     let v = c.args.number in
     let inside : within r v ≡ true = within_is r v (search (rules, ints)) (search (rules, ints)) in
-    quietly_stored _ _ _ _ _ _ _ _ c.is_ok.ensures.value c.requires c.set.ensures.acts
+    quietly_stored _ _ _ _ _ _ _ _ _ c.is_ok.ensures.value c.requires c.set.ensures
     (ap (λ n. store s p.frame p.slot n quiet_step) (to_z-of_z w64 v (search rules))
     ∙ sym (ap (λ b. if_true b (λ _. store s p.frame p.slot v quiet_step) (λ _. ends_in_fault fault.Range s)) inside))

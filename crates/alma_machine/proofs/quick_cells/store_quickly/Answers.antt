@@ -14,7 +14,7 @@ returns c =
     let s = run_state c.args.registers.now in
     let p = c.in-Ok.place in
     let v = c.in-Ok-number.number in
-    quietly_stored _ _ _ _ _ _ _ _ c.is_ok.ensures.value (one_slot s.now _ p c.in-Ok.ensures.0 c.requires.to.one) c.set.ensures.acts
+    quietly_stored _ _ _ _ _ _ _ _ _ c.is_ok.ensures.value (one_slot s.now _ p c.in-Ok.ensures.0 c.requires.to.one) c.set.ensures
     (ap (λ n. store s p.frame p.slot n quiet_step) (to_z-of_z w64 v (search rules))
     ∙ sym (c.in-Ok.ensures.1 s (λ p. number s c.args.from (λ v. store s p.frame p.slot v quiet_step)) refl
     ∙ c.in-Ok-number.ensures s (λ v. store s p.frame p.slot v quiet_step) refl))

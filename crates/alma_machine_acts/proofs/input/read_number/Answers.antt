@@ -5,20 +5,19 @@ use Rattle.alma_machine_acts.specs.Rows.{state_of}
 use Rattle.alma_machine_acts.proofs.Words.{makes_is, acts_is}
 use Rattle.alma_machine_acts.proofs.input.read_number.Goals as goal
 
-pub returns-in-Err-clause-acts : goal.returns-in-Err-clause-acts
-returns-in-Err-clause-acts g c =
+pub returns-in-Err : goal.returns-in-Err
+returns-in-Err g c =
     let s = state_of g.M.MachineMemory.picture c.args.registers.now in
-    makes_is _ _ _ _ _ c.end.ensures.made (sym
+    makes_is c.end.ensures.made (sym
     (c.in-Err.ensures s (λ p. position s (λ n. takes_read s c.args.range.now p (number_from c.args.input.now n)))
     refl))
 
-pub returns-in-Ok-clause-acts : goal.returns-in-Ok-clause-acts
-returns-in-Ok-clause-acts g c =
+pub returns-in-Ok : goal.returns-in-Ok
+returns-in-Ok g c =
     let s = state_of g.M.MachineMemory.picture c.args.registers.now in
     let range = c.args.range.now in
     let input = c.args.input.now in
-    acts_is c.take.result s (state_of g.M.MachineMemory.picture c.take.new.registers)
-    (takes_read s range c.in-Ok.place c.find_number.result) _ c.take.ensures.acts
+    acts_is _ _ _ _ c.take.ensures
     (sym (c.in-Ok.ensures.1 s (λ p. position s (λ n. takes_read s range p (number_from input n))) refl
     ∙ c.position-from.ensures s (λ n. takes_read s range c.in-Ok.place (number_from input n)) refl
     ∙ ap (takes_read s range c.in-Ok.place) (sym c.find_number.ensures.found)))

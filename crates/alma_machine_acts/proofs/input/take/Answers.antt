@@ -8,27 +8,27 @@ use Rattle.alma_machine_acts.proofs.Reading.{took_is, took_out}
 use Rattle.alma_machine_acts.proofs.Words.{makes_is, ranges, within_is}
 use Rattle.alma_machine_acts.proofs.input.take.Goals as goal
 
-pub returns-in-NoNumber-clause-acts : goal.returns-in-NoNumber-clause-acts
-returns-in-NoNumber-clause-acts g c =
+pub returns-in-NoNumber : goal.returns-in-NoNumber
+returns-in-NoNumber g c =
     let s = state_of g.M.MachineMemory.picture c.args.registers.now in
-    makes_is _ _ _ _ _ c.fail.ensures.made (sym (ap (takes_read s c.args.range.now c.args.place) c.in-NoNumber.is))
+    makes_is c.fail.ensures.made (sym (ap (takes_read s c.args.range.now c.args.place) c.in-NoNumber.is))
 
-pub returns-in-TooLarge-clause-acts : goal.returns-in-TooLarge-clause-acts
-returns-in-TooLarge-clause-acts g c =
+pub returns-in-TooLarge : goal.returns-in-TooLarge
+returns-in-TooLarge g c =
     let s = state_of g.M.MachineMemory.picture c.args.registers.now in
-    makes_is _ _ _ _ _ c.end.ensures.made (sym (ap (takes_read s c.args.range.now c.args.place) c.in-TooLarge.is))
+    makes_is c.end.ensures.made (sym (ap (takes_read s c.args.range.now c.args.place) c.in-TooLarge.is))
 
-pub returns-then-number-range-clause-acts : goal.returns-then-number-range-clause-acts
-returns-then-number-range-clause-acts g c =
+pub returns-then-number-range : goal.returns-then-number-range
+returns-then-number-range g c =
     let s = state_of g.M.MachineMemory.picture c.args.registers.now in
     let r = c.args.range.now in
     let v = c.in-Number.number in
     let out : within r v ≡ false = search (rules, ranges) in
-    makes_is _ _ _ _ _ c.end-then-number-range.ensures.made (sym (ap (takes_read s r c.args.place) c.in-Number.is
+    makes_is c.end-then-number-range.ensures.made (sym (ap (takes_read s r c.args.place) c.in-Number.is
     ∙ took_out s r c.args.place v c.in-Number.behind out))
 
-pub returns-in-Ok-write-clause-acts : goal.returns-in-Ok-write-clause-acts
-returns-in-Ok-write-clause-acts g c =
+pub returns-in-Ok-write : goal.returns-in-Ok-write
+returns-in-Ok-write g c =
     let s = state_of g.M.MachineMemory.picture c.args.registers.now in
     let r = c.args.range.now in
     let v = c.in-Number.number in

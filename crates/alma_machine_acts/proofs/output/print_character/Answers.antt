@@ -10,19 +10,20 @@ use Rattle.alma_machine_acts.specs.Rows.{state_of}
 use Rattle.alma_machine_acts.specs.Steps.{step_result}
 use Rattle.alma_machine_acts.proofs.output.print_character.Goals as goal
 
-pub returns-in-Err-clause-acts : goal.returns-in-Err-clause-acts
-returns-in-Err-clause-acts g c =
+pub returns-in-Err : goal.returns-in-Err
+returns-in-Err g c =
     let s = state_of g.M.MachineMemory.picture c.args.registers.now in
     record {
       step = ap (λ b. step_result c.end.result b (state_of g.M.MachineMemory.picture c.end.new.self)) c.requires.empty
           ∙ c.end.ensures.made.step
           ∙ sym (c.in-Err.ensures s (λ v. prints_bytes (value_text (kind.Char (nat_abs (int_rem_euclid v (pos 256))))) s) refl);
       kept = search rules;
+      past = search rules;
       quiet = search rules;
     }
 
-pub returns-in_ok-write_value-in-Ok-clause-acts : goal.returns-in_ok-write_value-in-Ok-clause-acts
-returns-in_ok-write_value-in-Ok-clause-acts g c =
+pub returns-in_ok-write_value-in-Ok : goal.returns-in_ok-write_value-in-Ok
+returns-in_ok-write_value-in-Ok g c =
     let s = state_of g.M.MachineMemory.picture c.args.registers.now in
     let v = c.in-Ok.number in
     let n = c.rem_euclid.result in
@@ -33,5 +34,6 @@ returns-in_ok-write_value-in-Ok-clause-acts g c =
           ∙ ap (λ v. int_rem_euclid v (pos 256)) (to_z-of_z w64 v (search rules))))
           ∙ sym (c.in-Ok.ensures s (λ v. prints_bytes (value_text (kind.Char (nat_abs (int_rem_euclid v (pos 256))))) s) refl);
       kept = search rules;
+      past = search rules;
       quiet = search rules;
     }

@@ -7,8 +7,8 @@ use Rattle.alma_machine_acts.specs.Rows.{state_of}
 use Rattle.alma_machine_acts.proofs.Meetings.{equated_more, equations_end}
 use Rattle.alma_machine_acts.proofs.registers.Registers.equate_all.Goals as goal
 
-pub returns-in-Ok-Ends-clause-made : goal.returns-in-Ok-Ends-clause-made
-returns-in-Ok-Ends-clause-made g c =
+pub returns-in-Ok-Ends : goal.returns-in-Ok-Ends
+returns-in-Ok-Ends g c =
     let t = state_of g.M.MachineMemory.picture c.loop-k.self in
     let u = state_of g.M.MachineMemory.picture c.equate.new.self in
     let f = c.args.left.frame in
@@ -17,11 +17,13 @@ returns-in-Ok-Ends-clause-made g c =
     let j = c.args.right.slot in
     let k = c.loop-k.k in
     let ends : Meets (Ends c.in-Ok-Ends.step) (λ q. equation t f (i + k) None b (j + k) None q) u =
-    subst (λ met. Meets met (λ q. equation t f (i + k) None b (j + k) None q) u) c.in-Ok-Ends.field-0-is c.in-Ok-Ends.ensures.ok in
+    subst (λ met. Meets met (λ q. equation t f (i + k) None b (j + k) None q) u) c.in-Ok-Ends.field-0-is
+    c.in-Ok-Ends.ensures.equates.meets in
     record {
       step = sym (c.loop-k.invariant.equation_of_contents.rest
           ∙ equations_end c.args.count k t u c.in-Ok-Ends.step f i b j c.loop-k-test.true ends);
       kept = search rules;
+      past = search rules;
     }
 
 pub loop-k-preserved : goal.loop-k-preserved
@@ -35,11 +37,12 @@ loop-k-preserved g c =
     let j = c.args.right.slot in
     let k = c.loop-k.k in
     let holds : Meets Holds (λ q. equation t f (i + k) None b (j + k) None q) u =
-    subst (λ met. Meets met (λ q. equation t f (i + k) None b (j + k) None q) u) c.in-Ok-Holds.field-0-is c.in-Ok-Holds.ensures.ok in
-    let kept : MeetsOn Holds t u = subst (λ met. MeetsOn met t u) c.in-Ok-Holds.field-0-is c.in-Ok-Holds.ensures.kept in
+    subst (λ met. Meets met (λ q. equation t f (i + k) None b (j + k) None q) u) c.in-Ok-Holds.field-0-is
+    c.in-Ok-Holds.ensures.equates.meets in
+    let kept : MeetsOn Holds t u = subst (λ met. MeetsOn met t u) c.in-Ok-Holds.field-0-is c.in-Ok-Holds.ensures.equates.kept in
     record {
       equation_of_contents = equated_more c.args.count k s t u f i b j c.loop-k-test.true c.loop-k.invariant.equation_of_contents holds
-          c.in-Ok-Holds.ensures.stays kept;
-      room = omega (arith, c.loop-k.invariant.room, c.in-Ok-Holds.ensures.room);
-      past = c.in-Ok-Holds.ensures.past ∙ c.loop-k.invariant.past;
+          c.in-Ok-Holds.ensures.writes.stays kept;
+      room = omega (arith, c.loop-k.invariant.room, c.in-Ok-Holds.ensures.writes.room);
+      past = c.in-Ok-Holds.ensures.equates.past ∙ c.loop-k.invariant.past;
     }

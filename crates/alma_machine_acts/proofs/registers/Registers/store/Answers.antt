@@ -1,4 +1,4 @@
-use Rattle.std.proofs.Common.{rules, refl, sym, ap, ◌∙◌, w64, to_z, of_z}
+use Rattle.std.proofs.Common.{rules, refl, sym, ap, ◌∙◌, w64}
 use Rattle.std.proofs.lemmas.Int.{to_z-of_z}
 use Rattle.alma_code.specs.Machine.{number, place, store, quiet_step}
 use Rattle.alma_machine_acts.specs.Rows.{state_of}
@@ -9,28 +9,26 @@ pub set-requires : goal.set-requires
 set-requires g c =
     one_slot (g.M.MachineMemory.picture c.args.self.now.memory).now _ c.in-Ok.place c.in-Ok.ensures.0 c.requires.to.one
 
-pub returns-in-Err-clause-acts : goal.returns-in-Err-clause-acts
-returns-in-Err-clause-acts g c =
+pub returns-in-Err : goal.returns-in-Err
+returns-in-Err g c =
     let s = state_of g.M.MachineMemory.picture c.args.self.now in
-    makes_is _ _ _ _ _ c.end.ensures.made (sym
+    makes_is c.end.ensures.made (sym
     (c.in-Err.ensures s (λ p. number s c.args.from (λ v. store s p.frame p.slot v quiet_step)) refl))
 
-pub returns-in-Err-number-clause-acts : goal.returns-in-Err-number-clause-acts
-returns-in-Err-number-clause-acts g c =
+pub returns-in-Err-number : goal.returns-in-Err-number
+returns-in-Err-number g c =
     let s = state_of g.M.MachineMemory.picture c.args.self.now in
     let p = c.in-Ok.place in
-    makes_is _ _ _ _ _ c.end-in-Err-number.ensures.made
+    makes_is c.end-in-Err-number.ensures.made
     (sym (c.in-Ok.ensures.1 s (λ p. number s c.args.from (λ v. store s p.frame p.slot v quiet_step)) refl
     ∙ c.in-Err-number.ensures s (λ v. store s p.frame p.slot v quiet_step) refl))
 
-pub returns-in-Ok-number-clause-acts : goal.returns-in-Ok-number-clause-acts
-returns-in-Ok-number-clause-acts g c =
+pub returns-in-Ok-number : goal.returns-in-Ok-number
+returns-in-Ok-number g c =
     let s = state_of g.M.MachineMemory.picture c.args.self.now in
     let p = c.in-Ok.place in
     let v = c.in-Ok-number.number in
-    acts_is c.set.result s (state_of g.M.MachineMemory.picture c.set.new.self)
-    (store s p.frame p.slot (to_z w64 (of_z w64 v)) quiet_step)
-    (place s c.args.to (λ p. number s c.args.from (λ v. store s p.frame p.slot v quiet_step))) c.set.ensures.acts
+    acts_is _ _ _ _ c.set.ensures
     (ap (λ n. store s p.frame p.slot n quiet_step) (to_z-of_z w64 v (search rules))
     ∙ sym (c.in-Ok.ensures.1 s (λ p. number s c.args.from (λ v. store s p.frame p.slot v quiet_step)) refl
     ∙ c.in-Ok-number.ensures s (λ v. store s p.frame p.slot v quiet_step) refl))

@@ -15,25 +15,25 @@ equate-requires g c =
       right = one_slot now (width now c.args.right) c.in-Ok-place.place c.in-Ok-place.ensures.0 c.requires.right.one;
     }
 
-pub returns-in-Err-clause-acts : goal.returns-in-Err-clause-acts
-returns-in-Err-clause-acts g c =
+pub returns-in-Err : goal.returns-in-Err
+returns-in-Err g c =
     let s = state_of g.M.MachineMemory.picture c.args.self.now in
     let a = c.args in
-    makes_is _ _ _ _ _ c.end.ensures.made (sym (c.in-Err.ensures s
+    makes_is c.end.ensures.made (sym (c.in-Err.ensures s
     (λ p. place s a.right (λ q. equation s p.frame p.slot (Some a.left_range) q.frame q.slot (Some a.right_range) quiet_step)) refl))
 
-pub returns-in-Err-place-clause-acts : goal.returns-in-Err-place-clause-acts
-returns-in-Err-place-clause-acts g c =
+pub returns-in-Err-place : goal.returns-in-Err-place
+returns-in-Err-place g c =
     let s = state_of g.M.MachineMemory.picture c.args.self.now in
     let a = c.args in
     let p = c.in-Ok.place in
-    makes_is _ _ _ _ _ c.end-in-Err-place.ensures.made (sym (c.in-Ok.ensures.1 s
+    makes_is c.end-in-Err-place.ensures.made (sym (c.in-Ok.ensures.1 s
     (λ p. place s a.right (λ q. equation s p.frame p.slot (Some a.left_range) q.frame q.slot (Some a.right_range) quiet_step)) refl
     ∙ c.in-Err-place.ensures s
     (λ q. equation s p.frame p.slot (Some a.left_range) q.frame q.slot (Some a.right_range) quiet_step) refl))
 
-pub returns-in-Holds-clause-acts : goal.returns-in-Holds-clause-acts
-returns-in-Holds-clause-acts g c =
+pub returns-in-Holds : goal.returns-in-Holds
+returns-in-Holds g c =
     let s = state_of g.M.MachineMemory.picture c.args.self.now in
     let t = state_of g.M.MachineMemory.picture c.equate.new.self in
     let a = c.args in
@@ -41,17 +41,18 @@ returns-in-Holds-clause-acts g c =
     let q = c.in-Ok-place.place in
     let holds : Meets Holds (λ k. equation s p.frame p.slot (Some a.left_range) q.frame q.slot (Some a.right_range) k) t =
     subst (λ met. Meets met (λ k. equation s p.frame p.slot (Some a.left_range) q.frame q.slot (Some a.right_range) k) t)
-    c.in-Holds.is c.in_ok-equate.ensures.ok in
+    c.in-Holds.is c.in_ok-equate.ensures.equates.meets in
     record {
       step = sym (c.in-Ok.ensures.1 s
           (λ p. place s a.right (λ q. equation s p.frame p.slot (Some a.left_range) q.frame q.slot (Some a.right_range) quiet_step)) refl
           ∙ c.in-Ok-place.ensures.1 s
           (λ q. equation s p.frame p.slot (Some a.left_range) q.frame q.slot (Some a.right_range) quiet_step) refl ∙ holds quiet_step);
       kept = search rules;
+      past = search rules;
     }
 
-pub returns-in-Ends-clause-acts : goal.returns-in-Ends-clause-acts
-returns-in-Ends-clause-acts g c =
+pub returns-in-Ends : goal.returns-in-Ends
+returns-in-Ends g c =
     let s = state_of g.M.MachineMemory.picture c.args.self.now in
     let t = state_of g.M.MachineMemory.picture c.equate.new.self in
     let a = c.args in
@@ -59,11 +60,12 @@ returns-in-Ends-clause-acts g c =
     let q = c.in-Ok-place.place in
     let ends : Meets (Ends c.in-Ends.step) (λ k. equation s p.frame p.slot (Some a.left_range) q.frame q.slot (Some a.right_range) k) t =
     subst (λ met. Meets met (λ k. equation s p.frame p.slot (Some a.left_range) q.frame q.slot (Some a.right_range) k) t)
-    c.in-Ends.is c.in_ok-equate.ensures.ok in
+    c.in-Ends.is c.in_ok-equate.ensures.equates.meets in
     record {
       step = sym (c.in-Ok.ensures.1 s
           (λ p. place s a.right (λ q. equation s p.frame p.slot (Some a.left_range) q.frame q.slot (Some a.right_range) quiet_step)) refl
           ∙ c.in-Ok-place.ensures.1 s
           (λ q. equation s p.frame p.slot (Some a.left_range) q.frame q.slot (Some a.right_range) quiet_step) refl ∙ ends quiet_step);
       kept = search rules;
+      past = search rules;
     }
