@@ -1,3 +1,4 @@
 pub mod Steps
 mod Numbers
 mod Chains
+mod Equations

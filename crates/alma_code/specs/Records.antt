@@ -79,16 +79,24 @@ runs_differ [] = true
 runs_differ (a ∷ []) = true
 runs_differ (a ∷ (b ∷ rest)) = not (same_kind a.kind b.kind) && runs_differ (b ∷ rest)
 
--- ---- version 1
+-- ---- versions
 
--- a kind of version 1: no link
+-- the version of a code without links and lines
+abbrev pub first_version : ℕ
+first_version = 1
+
+-- the version of a code that may have links and lines
+abbrev pub latest_version : ℕ
+latest_version = 2
+
+-- a kind of the first version: no link
 abbrev pub is_first_kind : SlotKind → Bool
 is_first_kind (slot.Link r) = false
 is_first_kind slot.Number = true
 is_first_kind (slot.Place n) = true
 is_first_kind slot.Mark = true
 
--- a parameter of version 1
+-- a parameter of the first version
 abbrev pub is_first_param : ParamKind → Bool
 is_first_param param.Link = false
 is_first_param param.Value = true
@@ -96,7 +104,7 @@ is_first_param param.Place = true
 is_first_param param.Mix = true
 is_first_param param.Cells = true
 
--- a form of version 1
+-- a form of the first version
 abbrev pub is_first_form : Instr → Bool
 is_first_form (I.Own a) = false
 is_first_form (I.Chain a b c) = false
@@ -104,7 +112,7 @@ is_first_form (I.Outer a b c) = false
 is_first_form (I.OuterSame a b c) = false
 is_first_form _ = true
 
--- a routine of version 1: no link among the kinds of its slots, nor among its parameters
+-- a routine of the first version: no link among the kinds of its slots, nor among its parameters
 abbrev pub is_first_routine : PlainRoutine → Bool
 is_first_routine r = list_all (λ run. is_first_kind run.kind) r.head.runs && list_all (λ p. is_first_param p.kind) r.head.params
 
@@ -114,10 +122,10 @@ pub record IsFirst (code : PlainCode) : Type 0 where
   pub forms : list_all is_first_form code.instrs ≡ true
   pub lines : code.lines ≡ []
 
--- the version is 1 or 2, and a code of version 1 has no link and no line
+-- the version is the first or the latest, and a code of the first has no link and no line
 pub record KeepsVersion (code : PlainCode) : Type 0 where
-  pub version : (code.version ≡ 1) ⊎ (code.version ≡ 2)
-  pub first : code.version ≡ 1 → IsFirst code
+  pub version : (code.version ≡ first_version) ⊎ (code.version ≡ latest_version)
+  pub first : code.version ≡ first_version → IsFirst code
 
 -- ---- all records
 

@@ -70,11 +70,17 @@ pub struct Line {
     pub line: u32,
 }
 
+/// The version of a code without links and lines.
+pub const FIRST_VERSION: u16 = 1;
+
+/// The version of a code that may have links and lines.
+pub const LATEST_VERSION: u16 = 2;
+
 /// A code. Instructions name routines, ranges and texts by their places here, and one another by
 /// address.
 #[derive(Drop)]
 pub struct Code {
-    /// Of the format: 1, or 2 for a code that may have links and lines.
+    /// Of the format: the first, or the latest.
     pub version: u16,
     pub routines: Vec<RoutineHead>,
     pub globals: Vec<CodeGlobal>,

@@ -8,7 +8,7 @@ ghost use Rattle.alma_lower_templates.specs.CodeOf.{IsCodeOf, IsOfIntegers};
 
 use crate::routines::lower_routines;
 use alma_base::{INSTR_LIMIT, NoMemory};
-use alma_code::Code;
+use alma_code::{Code, LATEST_VERSION};
 use alma_ir::Program;
 use alma_lower_tables::{gather, globals_of, instrs_of, lines_of};
 use std::alloc::Global;
@@ -31,7 +31,7 @@ pub fn compiled(alloc: Global, program: &Program) -> Result<Code, NoMemory>
     let code = instrs_of(alloc, &made.code)?;
     let lines = lines_of(alloc, &made.code)?;
     Ok(Code {
-        version: 2,
+        version: LATEST_VERSION,
         routines: made.heads,
         globals,
         ranges,

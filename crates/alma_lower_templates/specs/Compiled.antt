@@ -7,6 +7,7 @@ use Rattle.alma_code.specs.declared.head.ParamKind.TheVariants as param
 use Rattle.alma_code.specs.declared.head.Run.{Run}
 use Rattle.alma_code.specs.Head.{PlainHead}
 use Rattle.alma_code.specs.Plain.{PlainCode, PlainGlobal, PlainRoutine}
+use Rattle.alma_code.specs.Records.{latest_version}
 use Rattle.alma_ir.specs.declared.program.ArgKind.{ArgKind}
 use Rattle.alma_ir.specs.declared.program.ArgKind.TheVariants as kind
 use Rattle.alma_ir.specs.declared.program.Param.{Param}
@@ -67,7 +68,7 @@ routines_named p tables r at (runs ∷ rest) =
 -- the code of a program, given its tables and the runs of kinds in which the slots of each routine are named
 abbrev pub program_code : Program → Tables → List (List Run) → PlainCode
 program_code p tables runs = record {
-  version = 2;
+  version = latest_version;
   routines = routines_named p tables 0 0 runs;
   globals = map global_named p.globals;
   ranges = tables.ranges;

@@ -8,7 +8,7 @@ ghost use Rattle.alma_object_format.specs.Bytes.{words_bytes};
 ghost use Rattle.alma_object_format.specs.Instrs.{instr_bytes};
 
 use alma_base::{NoMemory, Range};
-use alma_code::{Code, CodeParam, Instr, Line, ParamKind, RoutineHead, Run, SlotKind};
+use alma_code::{Code, CodeParam, Instr, LATEST_VERSION, Line, ParamKind, RoutineHead, Run, SlotKind};
 use alma_object_format::{push_i64, push_instr, push_words};
 use std::alloc::Global;
 
@@ -268,7 +268,7 @@ fn push_header(
             code.code.len() as u32,
         ],
     )?;
-    if code.version == 2 {
+    if code.version == LATEST_VERSION {
         push_words(out, &[code.lines.len() as u32])?;
     }
     Ok(())

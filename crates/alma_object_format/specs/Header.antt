@@ -2,6 +2,7 @@
 use Rattle.std.specs.Prelude.{◌≡◌, ℕ, ◌+◌, ◌*◌, ◌≤◌, true, ◌||◌, nat_eq, nat_le, if◌then◌else◌, Option, None, List, codes}
 use Rattle.std.specs.List.{starts_with}
 use Rattle.alma_base.specs.Limits.{routine_limit, instr_limit, slot_limit, record_limit, pool_limit}
+use Rattle.alma_code.specs.Records.{first_version, latest_version}
 use Rattle.alma_object_format.specs.declared.fault.ObjectFault.{ObjectFault}
 use Rattle.alma_object_format.specs.declared.fault.ObjectFault.TheVariants as fault
 use Rattle.alma_object_format.specs.declared.header.Header.{Header}
@@ -14,7 +15,7 @@ use Rattle.alma_object_format.specs.Lengths.{text_end_len, instr_len, line_len}
 abbrev pub magic : List ℕ
 magic = codes "ALMA0OBJ"
 
--- the version and the counts; version 1 has no lines
+-- the version and the counts; the first version has no lines
 abbrev pub header_of : List ℕ → Header
 header_of bytes = record {
   version = u16_at bytes 8;
@@ -27,7 +28,7 @@ header_of bytes = record {
   name_bytes = u32_at bytes 34;
   text_bytes = u32_at bytes 38;
   instrs = u32_at bytes 42;
-  lines = if nat_eq (u16_at bytes 8) 2 then u32_at bytes 46 else 0;
+  lines = if nat_eq (u16_at bytes 8) latest_version then u32_at bytes 46 else 0;
 }
 
 -- ---- the faults of the header
@@ -36,10 +37,13 @@ header_of bytes = record {
 abbrev pub magic_fault : List ℕ → Option ObjectFault
 magic_fault bytes = whole bytes 8 (unless (starts_with nat_eq bytes magic) fault.Magic None)
 
+-- a version that is known
+abbrev pub is_version : ℕ → Bool
+is_version version = nat_eq version first_version || nat_eq version latest_version
+
 -- of the version
 abbrev pub version_fault : List ℕ → Option ObjectFault
-version_fault bytes =
-    whole bytes 10 (unless (nat_eq (u16_at bytes 8) 1 || nat_eq (u16_at bytes 8) 2) (fault.Version (u16_at bytes 8)) None)
+version_fault bytes = whole bytes 10 (unless (is_version (u16_at bytes 8)) (fault.Version (u16_at bytes 8)) None)
 
 -- of the count at an offset, with its greatest value
 unfoldable pub count_fault : List ℕ → (at greatest : ℕ) → Option ObjectFault
@@ -59,7 +63,7 @@ counts_fault bytes =
     (or_else (count_fault bytes 38 pool_limit)
     (unless (nat_eq (u32_at bytes 38) 0 || nat_le 1 (u32_at bytes 30)) (fault.BadCount 38)
     (or_else (count_fault bytes 42 instr_limit)
-    (if nat_eq (u16_at bytes 8) 2 then count_fault bytes 46 record_limit else None)))))))))))
+    (if nat_eq (u16_at bytes 8) latest_version then count_fault bytes 46 record_limit else None)))))))))))
 
 -- of the header
 unfoldable pub header_fault : List ℕ → Option ObjectFault
@@ -69,8 +73,8 @@ header_fault bytes = or_else (magic_fault bytes) (or_else (version_fault bytes) 
 
 -- no count is past its greatest value
 pub record IsWithin (h : Header) : Type 0 where
-  pub version : (nat_eq h.version 1 || nat_eq h.version 2) ≡ true
-  pub no_lines : h.version ≡ 1 → h.lines ≡ 0
+  pub version : is_version h.version ≡ true
+  pub no_lines : h.version ≡ first_version → h.lines ≡ 0
   pub some : 1 ≤ h.routines
   pub routines : h.routines ≤ routine_limit
   pub globals : h.globals ≤ record_limit
@@ -88,7 +92,7 @@ pub record IsWithin (h : Header) : Type 0 where
 
 -- the routines begin behind the last count
 abbrev pub routines_at : Header → ℕ
-routines_at h = if nat_eq h.version 2 then header_len else first_header_len
+routines_at h = if nat_eq h.version latest_version then header_len else first_header_len
 
 abbrev pub globals_at : Header → ℕ
 globals_at h = routines_at h + routine_len * h.routines

@@ -3,6 +3,7 @@ use Rattle.std.specs.Prelude.{if◌then◌else◌, ℕ, ◌+◌, ◌-◌, ℤ, B
 use Rattle.std.specs.List.{list_all}
 use Rattle.alma_code.specs.declared.instr.Instr.{Instr}
 use Rattle.alma_code.specs.declared.instr.Instr.TheVariants as I
+use Rattle.alma_code.specs.Records.{latest_version}
 use Rattle.alma_object_format.specs.Bytes.{words_bytes, i64_bytes, u32_at, i64_at}
 
 -- ---- written
@@ -140,7 +141,7 @@ used_words =
 
 -- the last opcode of a version
 abbrev pub last_opcode : (version : ℕ) → ℕ
-last_opcode version = if nat_eq version 2 then 52 else 48
+last_opcode version = if nat_eq version latest_version then 52 else 48
 
 -- the words that stand from an offset on
 abbrev pub words_at : List ℕ → (at : ℕ) → List ℕ

@@ -1,11 +1,11 @@
 -- How many bytes the header of an object has, and each record behind it.
 use Rattle.std.specs.Prelude.{ℕ}
 
--- the bytes of the header of version 2: the magic, the version and ten counts
+-- the bytes of the header of the latest version: the magic, the version and ten counts
 abbrev pub header_len : ℕ
 header_len = 50
 
--- the bytes of the header of version 1, which has no count of lines
+-- the bytes of the header of the first version, which has no count of lines
 abbrev pub first_header_len : ℕ
 first_header_len = 46
 

@@ -2,7 +2,7 @@
 use Rattle.std.specs.Prelude.{ℕ, zero, suc, ◌+◌, ◌-◌, ◌*◌, Bool, not, ◌&&◌, ◌||◌, nat_eq, nat_lt, nat_le, int_le, if◌then◌else◌, Option}
 use Rattle.std.specs.Prelude.{None, List, length, slice_index}
 use Rattle.alma_base.specs.Reading.{is_digit}
-use Rattle.alma_code.specs.Records.{is_name_start}
+use Rattle.alma_code.specs.Records.{is_name_start, latest_version}
 use Rattle.alma_object_format.specs.declared.fault.ObjectFault.{ObjectFault}
 use Rattle.alma_object_format.specs.declared.fault.ObjectFault.TheVariants as fault
 use Rattle.alma_object_format.specs.declared.header.Header.{Header}
@@ -37,6 +37,14 @@ can_stand first byte = is_name_start byte || (not first && is_digit byte)
 -- a param of the kind with a number has one cell: a Value and a Mix
 abbrev pub has_one_cell : (kind : ℕ) → Bool
 has_one_cell kind = nat_eq kind 0 || nat_eq kind 2
+
+-- the last kind of a param, of a version: 0 Value, 1 Place, 2 Mix, 3 Cells, and of the latest 4 Link
+abbrev pub last_param_kind : (version : ℕ) → ℕ
+last_param_kind version = if nat_eq version latest_version then 4 else 3
+
+-- the last kind of a run, of a version: 0 Number, 1 Place, 2 Mark, and of the latest 3 Link
+abbrev pub last_run_kind : (version : ℕ) → ℕ
+last_run_kind version = if nat_eq version latest_version then 3 else 2
 
 -- a run of the kind with a number has a length: that of a Place, and the routine of a Link
 abbrev pub has_length : (kind : ℕ) → Bool
@@ -99,13 +107,13 @@ module _ (bytes : List ℕ) (h : Header) where
 
   -- ---- params
 
-  -- 0 Value, 1 Place, 2 Mix, 3 Cells, and from version 2 on 4 Link
+  -- its kind is one of the version; a Value and a Mix have one cell
   unfoldable pub param_fault : ℕ → Option ObjectFault
   param_fault p =
       let at = params_at h + param_len * p in
       let kind = u32_at bytes at in
       whole bytes (at + param_len)
-      (unless (nat_le kind (if nat_eq h.version 2 then 4 else 3)) (fault.BadCount at)
+      (unless (nat_le kind (last_param_kind h.version)) (fault.BadCount at)
       (unless (not (has_one_cell kind) || nat_eq (u32_at bytes (at + 4)) 1) (fault.BadCount (at + 4)) None))
 
   abbrev pub params_fault : Option ObjectFault
@@ -113,7 +121,7 @@ module _ (bytes : List ℕ) (h : Header) where
 
   -- ---- runs
 
-  -- 0 Number, 1 Place, 2 Mark, and from version 2 on 3 Link; the length of a Number or Mark is 0
+  -- its kind is one of the version; the length of a Number or Mark is 0
   -- a run that is not the first of its routine differs from the one before in kind or length, and its end is above that end
   unfoldable pub run_fault : (first : Bool) → ℕ → Option ObjectFault
   run_fault first r =
@@ -121,7 +129,7 @@ module _ (bytes : List ℕ) (h : Header) where
       let kind = u32_at bytes at in
       let same = nat_eq (u32_at bytes (at - run_len)) kind && nat_eq (u32_at bytes (at - 8)) (u32_at bytes (at + 4)) in
       whole bytes (at + run_len)
-      (unless (nat_le kind (if nat_eq h.version 2 then 3 else 2)) (fault.BadCount at)
+      (unless (nat_le kind (last_run_kind h.version)) (fault.BadCount at)
       (unless (has_length kind || nat_eq (u32_at bytes (at + 4)) 0) (fault.BadCount (at + 4))
       (unless (first || not same) (fault.BadCount (at + 4))
       (unless (nat_lt (if first then 0 else u32_at bytes (at - 4)) (u32_at bytes (at + 8))) (fault.BadCount (at + 8)) None))))

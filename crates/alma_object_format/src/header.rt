@@ -1,8 +1,8 @@
 // The header of an object: its version and its counts.
-ghost use Rattle.std.specs.Prelude.{◌≡◌, ◌+◌, ◌≤◌, ◌<◌, ◌*◌, ◌^◌, ◌||◌, nat_eq, length, IfOk, true};
+ghost use Rattle.std.specs.Prelude.{◌≡◌, ◌+◌, ◌≤◌, ◌<◌, ◌*◌, ◌^◌, length, IfOk, true};
 ghost use Rattle.alma_object_format.specs.Bytes.{u16_at as u16_there, u32_at as u32_there};
 ghost use Rattle.alma_object_format.specs.Fault.{TellsFault, or_else};
-ghost use Rattle.alma_object_format.specs.Header.{IsWithin, header_of, magic_fault, version_fault, count_fault, counts_fault, header_fault, routines_at, globals_at, params_at, runs_at, ranges_at, texts_at, name_pool_at, text_pool_at, instrs_at, lines_at, end_at};
+ghost use Rattle.alma_object_format.specs.Header.{IsWithin, header_of, is_version, magic_fault, version_fault, count_fault, counts_fault, header_fault, routines_at, globals_at, params_at, runs_at, ranges_at, texts_at, name_pool_at, text_pool_at, instrs_at, lines_at, end_at};
 
 use crate::bytes::{u16_at, u32_at};
 use crate::fault::ObjectFault;
@@ -11,6 +11,7 @@ use crate::lengths::{
     ROUTINE_LEN, RUN_LEN, TEXT_END_LEN,
 };
 use alma_base::{INSTR_LIMIT, POOL_LIMIT, RECORD_LIMIT, ROUTINE_LIMIT, SLOT_LIMIT};
+use alma_code::{FIRST_VERSION, LATEST_VERSION};
 
 /// The version, and how many records or bytes each section has.
 #[derive(Clone, Copy)]
@@ -34,7 +35,7 @@ impl Header {
         ensures within { result < 2 ^ 6 }
         ensures offset { result ≡ routines_at self.now }
     {
-        if self.version == 2 {
+        if self.version == LATEST_VERSION {
             HEADER_LEN
         } else {
             FIRST_HEADER_LEN
@@ -144,8 +145,7 @@ fn read_count(bytes: &[u8], at: usize, greatest: u32) -> Result<u32, ObjectFault
 
 // The magic and the version.
 fn read_version(bytes: &[u8]) -> Result<u16, ObjectFault>
-    ensures version { IfOk result (λ v.
-        (v ≡ u16_there bytes.now 8) × ((nat_eq v 1 || nat_eq v 2) ≡ true)) }
+    ensures version { IfOk result (λ v. (v ≡ u16_there bytes.now 8) × (is_version v ≡ true)) }
     ensures fault { TellsFault (or_else (magic_fault bytes.now) (version_fault bytes.now)) result }
 {
     if bytes.len() < 8 {
@@ -158,7 +158,7 @@ fn read_version(bytes: &[u8]) -> Result<u16, ObjectFault>
         return Err(ObjectFault::Cut(bytes.len()));
     }
     let version = u16_at(bytes, 8);
-    if version != 1 && version != 2 {
+    if version != FIRST_VERSION && version != LATEST_VERSION {
         return Err(ObjectFault::Version(version));
     }
     Ok(version)
@@ -168,7 +168,7 @@ fn read_version(bytes: &[u8]) -> Result<u16, ObjectFault>
 #[tactic(auto, unfolding(crate::specs::Header::counts_fault))]
 fn read_counts(bytes: &[u8], version: u16) -> Result<Header, ObjectFault>
     requires version { version ≡ u16_there bytes.now 8 }
-    requires known { (nat_eq version 1 || nat_eq version 2) ≡ true }
+    requires known { is_version version ≡ true }
     ensures header { IfOk result (λ h.
         (h ≡ header_of bytes.now) × IsWithin h × (routines_at h ≤ length bytes.now)) }
     ensures fault { TellsFault (counts_fault bytes.now) result }
@@ -188,7 +188,7 @@ fn read_counts(bytes: &[u8], version: u16) -> Result<Header, ObjectFault>
         return Err(ObjectFault::BadCount(38));
     }
     let instrs = read_count(bytes, 42, INSTR_LIMIT)?;
-    let lines = if version == 2 {
+    let lines = if version == LATEST_VERSION {
         read_count(bytes, 46, RECORD_LIMIT)?
     } else {
         0

@@ -1,12 +1,12 @@
 // The record of an instruction: its opcode and four words.
 ghost use Rattle.std.specs.Prelude.{◌≡◌, ◌+◌, ◌≤◌, ◌++◌, ◌∷◌, length, slice_index, OnOk};
 ghost use Rattle.alma_object_format.specs.Bytes.{words_bytes};
-ghost use Rattle.alma_object_format.specs.Instrs.{const_bytes, instr_bytes, is_instr as is_instr_there, instr_at as instr_there};
+ghost use Rattle.alma_object_format.specs.Instrs.{const_bytes, instr_bytes, is_instr as is_instr_there, instr_at as instr_there, last_opcode};
 ghost use Rattle.alma_object_format.specs.Lengths.{instr_len};
 
 use crate::bytes::{i64_at, push_i64, push_words, u32_at};
 use alma_base::NoMemory;
-use alma_code::Instr;
+use alma_code::{Instr, LATEST_VERSION};
 
 // How many words the forms use, in the order of their opcodes from 1 on.
 const USED_WORDS: [u8; 52] = [
@@ -114,6 +114,13 @@ pub fn push_instr(out: &mut Vec<u8>, instr: Instr) -> Result<(), NoMemory>
     }
 }
 
+// The last opcode of a version.
+fn last_opcode(version: u16) -> u8
+    ensures { result ≡ last_opcode version }
+{
+    if version == LATEST_VERSION { 52 } else { 48 }
+}
+
 /// Whether the record at an offset is that of an instruction of the version.
 #[tactic(auto, unfolding(crate::specs::Instrs::is_instr))]
 pub fn is_instr(version: u16, bytes: &[u8], at: usize) -> bool
@@ -121,8 +128,7 @@ pub fn is_instr(version: u16, bytes: &[u8], at: usize) -> bool
     ensures { result ≡ is_instr_there version bytes.now at }
 {
     let opcode = bytes[at];
-    let last = if version == 2 { 52 } else { 48 };
-    if opcode < 1 || opcode > last {
+    if opcode < 1 || opcode > last_opcode(version) {
         return false;
     }
     let a = u32_at(bytes, at + 1);

@@ -1,9 +1,9 @@
 // How many bytes the header has, and each record behind it.
 
-/// The bytes of the header of version 2: the magic, the version and ten counts.
+/// The bytes of the header of the latest version: the magic, the version and ten counts.
 pub const HEADER_LEN: usize = 50;
 
-/// The bytes of the header of version 1, which has no count of lines.
+/// The bytes of the header of the first version, which has no count of lines.
 pub const FIRST_HEADER_LEN: usize = 46;
 
 /// The bytes of the record of a routine: the ends of its name, params, runs and code, its slots and

@@ -3,7 +3,7 @@ ghost use Rattle.std.specs.Prelude.{◌≡◌, ◌+◌, ◌-◌, ◌*◌, ◌≤
 ghost use Rattle.alma_object_format.specs.Fault.{first_fault};
 ghost use Rattle.alma_object_format.specs.Header.{IsWithin, routines_at, globals_at, params_at, runs_at, ranges_at, texts_at, name_pool_at, text_pool_at, instrs_at, lines_at, end_at};
 ghost use Rattle.alma_object_format.specs.Lengths.{routine_len, global_len, param_len, run_len, range_len, text_end_len, instr_len, line_len};
-ghost use Rattle.alma_object_format.specs.Walk.{start_of, params_end as params_end_of, runs_end as runs_end_of, code_end as code_end_of, text_end as text_end_of, name_count as name_count_of, name_end as name_end_of, is_end as is_end_of, is_name_end as is_name_end_of, has_one_cell as has_one_cell_of, has_length as has_length_of, routine_fault as routine_fault_of, routines_fault as routines_fault_of, global_fault as global_fault_of, globals_fault as globals_fault_of, param_fault as param_fault_of, params_fault as params_fault_of, run_fault as run_fault_of, routine_runs_fault as routine_runs_fault_of, runs_fault as runs_fault_of, range_fault as range_fault_of, ranges_fault as ranges_fault_of, text_fault as text_fault_of, texts_fault as texts_fault_of, can_stand as can_stand_of, name_fault as name_fault_of, pools_fault as pools_fault_of, instr_fault as instr_fault_of, instrs_fault as instrs_fault_of, line_fault as line_fault_of, lines_fault as lines_fault_of, sections_fault as sections_fault_of};
+ghost use Rattle.alma_object_format.specs.Walk.{start_of, params_end as params_end_of, runs_end as runs_end_of, code_end as code_end_of, text_end as text_end_of, name_count as name_count_of, name_end as name_end_of, is_end as is_end_of, is_name_end as is_name_end_of, has_one_cell as has_one_cell_of, has_length as has_length_of, last_param_kind, last_run_kind, routine_fault as routine_fault_of, routines_fault as routines_fault_of, global_fault as global_fault_of, globals_fault as globals_fault_of, param_fault as param_fault_of, params_fault as params_fault_of, run_fault as run_fault_of, routine_runs_fault as routine_runs_fault_of, runs_fault as runs_fault_of, range_fault as range_fault_of, ranges_fault as ranges_fault_of, text_fault as text_fault_of, texts_fault as texts_fault_of, can_stand as can_stand_of, name_fault as name_fault_of, pools_fault as pools_fault_of, instr_fault as instr_fault_of, instrs_fault as instrs_fault_of, line_fault as line_fault_of, lines_fault as lines_fault_of, sections_fault as sections_fault_of};
 
 use crate::bytes::{i64_at, u32_at};
 use crate::fault::ObjectFault;
@@ -12,6 +12,7 @@ use crate::instr::is_instr;
 use crate::lengths::{
     GLOBAL_LEN, INSTR_LEN, LINE_LEN, PARAM_LEN, RANGE_LEN, ROUTINE_LEN, RUN_LEN, TEXT_END_LEN,
 };
+use alma_code::LATEST_VERSION;
 
 // ---- ends
 
@@ -284,6 +285,13 @@ fn has_one_cell(kind: u32) -> bool
     kind == 0 || kind == 2
 }
 
+// The last kind of a param, of a version.
+fn last_param_kind(version: u16) -> u32
+    ensures { result ≡ last_param_kind version }
+{
+    if version == LATEST_VERSION { 4 } else { 3 }
+}
+
 // Of the record of a param.
 #[tactic(auto, unfolding(crate::specs::Walk::param_fault))]
 fn param_fault(bytes: &[u8], header: &Header, param: u32) -> Option<ObjectFault>
@@ -296,8 +304,7 @@ fn param_fault(bytes: &[u8], header: &Header, param: u32) -> Option<ObjectFault>
         return Some(ObjectFault::Cut(bytes.len()));
     }
     let kind = u32_at(bytes, at);
-    let last_kind = if header.version == 2 { 4 } else { 3 };
-    if kind > last_kind {
+    if kind > last_param_kind(header.version) {
         return Some(ObjectFault::BadCount(at));
     }
     if has_one_cell(kind) && u32_at(bytes, at + 4) != 1 {
@@ -330,6 +337,13 @@ fn has_length(kind: u32) -> bool
     kind == 1 || kind == 3
 }
 
+// The last kind of a run, of a version.
+fn last_run_kind(version: u16) -> u32
+    ensures { result ≡ last_run_kind version }
+{
+    if version == LATEST_VERSION { 3 } else { 2 }
+}
+
 // Of the record of a run.
 #[tactic(auto, unfolding(crate::specs::Walk::run_fault))]
 fn run_fault(bytes: &[u8], header: &Header, first: bool, run: u32) -> Option<ObjectFault>
@@ -342,8 +356,7 @@ fn run_fault(bytes: &[u8], header: &Header, first: bool, run: u32) -> Option<Obj
         return Some(ObjectFault::Cut(bytes.len()));
     }
     let kind = u32_at(bytes, at);
-    let last_kind = if header.version == 2 { 3 } else { 2 };
-    if kind > last_kind {
+    if kind > last_run_kind(header.version) {
         return Some(ObjectFault::BadCount(at));
     }
     let len = u32_at(bytes, at + 4);

@@ -6,7 +6,8 @@ use Rattle.alma_base.specs.declared.fault.CheckFault.TheVariants as fault
 use Rattle.alma_base.specs.Choice.{if_true}
 use Rattle.alma_names.specs.declared.block.Entry.{Entry}
 use Rattle.alma_names.specs.declared.block.Entry.TheVariants as entry
-use Rattle.alma_names.specs.Shapes.{PlainShape, PlainField, listed, sub, row, fields, is_too_large, placed_shape, cell_counts, integer_shape}
+use Rattle.alma_names.specs.Shapes.{PlainShape, PlainField, listed, sub, row, fields, is_too_large, placed_shape, cell_counts}
+use Rattle.alma_names.specs.Shapes.{integer_shape}
 use Rattle.alma_names.specs.Blocks.{shape_id}
 use Rattle.alma_names.specs.Scopes.{with_declared}
 use Rattle.alma_rules.specs.Numbered as tree
