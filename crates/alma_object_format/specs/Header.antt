@@ -1,5 +1,5 @@
 -- The header of an object: the magic, the version and the counts.
-use Rattle.std.specs.Prelude.{◌≡◌, ℕ, ◌+◌, ◌*◌, ◌≤◌, true, ◌||◌, nat_eq, nat_le, if◌then◌else◌, Option, None, List, codes}
+use Rattle.std.specs.Prelude.{◌≡◌, ℕ, ◌+◌, ◌*◌, ◌≤◌, Bool, true, ◌||◌, nat_eq, nat_le, if◌then◌else◌, Option, None, List, codes}
 use Rattle.std.specs.List.{starts_with}
 use Rattle.alma_base.specs.Limits.{routine_limit, instr_limit, slot_limit, record_limit, pool_limit}
 use Rattle.alma_code.specs.Records.{first_version, latest_version}
