@@ -1,5 +1,5 @@
 // Types.
-ghost use Rattle.std.specs.Prelude.{◌∷◌, ◌<◌, ℕ, length, MatchResult, IfOk, Some, None};
+ghost use Rattle.std.specs.Prelude.{◌∷◌, ◌<◌, ℕ, length, MatchResult, IfOk};
 ghost use Rattle.alma_tree.specs.Spelling.{spell_type_node, spell_array_tail, spell_dimensions, spell_plain_type, spell_plain_tail, spell_field_list};
 ghost use Rattle.alma_tree.specs.Spelling.{spell_field_list_tail};
 ghost use Rattle.alma_tree.specs.View.{view_type_node, arrays_of, view_dimension, dimensions_of, view_plain_type, plains_of, view_field_list};

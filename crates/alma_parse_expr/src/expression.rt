@@ -1,10 +1,10 @@
 // Expressions and designators.
-ghost use Rattle.std.specs.Prelude.{◌∷◌, ◌<◌, pred, length, MatchResult, IfOk, Some, None};
+ghost use Rattle.std.specs.Prelude.{◌∷◌, ◌<◌, pred, length, MatchResult, IfOk};
 ghost use Rattle.alma_tree.specs.Spelling.{spell_expr, spell_compared, spell_simple, spell_term_tail, spell_term, spell_factor_tail};
 ghost use Rattle.alma_tree.specs.Spelling.{spell_factor, spell_primary, spell_args, spell_exprs, spell_expr_tail, spell_desig, spell_selector_tail};
 ghost use Rattle.alma_tree.specs.Spelling.{spell_selector};
 ghost use Rattle.alma_tree.specs.View.{view_expr, compared_of, view_simple, terms_of, view_term, factors_of, view_factor, view_primary, args_of};
-ghost use Rattle.alma_tree.specs.View.{args_values, view_exprs, exprs_of, view_desig, selectors_of, view_selector};
+ghost use Rattle.alma_tree.specs.View.{view_exprs, exprs_of, view_desig, selectors_of, view_selector};
 ghost use Rattle.alma_tree.specs.Numbers.{number_expr, numbers_of_compared, number_simple, numbers_of_terms, number_term, numbers_of_factors};
 ghost use Rattle.alma_tree.specs.Numbers.{number_factor, number_primary, numbers_of_args, number_exprs, numbers_of_exprs, number_desig, numbers_of_selectors};
 ghost use Rattle.alma_tree.specs.Numbers.{number_selector};
