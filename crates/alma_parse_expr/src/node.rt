@@ -187,7 +187,8 @@ pub fn named_of<'t, 's>(
 pub fn arguments_of<'t, 's>(
     values: Result<(Option<Exprs>, Cursor<'t, 's>), Fault<'t, 's>>,
 ) -> Result<(Option<Args>, Cursor<'t, 's>), Fault<'t, 's>>
-    ensures made { result ≡ made (λ v. Some (arguments.roll-Args (record { values = v }))) values.entry }
+    ensures made { result
+        ≡ made (λ v. Some (arguments.roll-Args (record { values = v }))) values.entry }
 {
     let (values, at) = values?;
     Ok((Some(Args { values }), at))
