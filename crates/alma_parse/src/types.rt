@@ -183,7 +183,7 @@ fn record_type<'t, 's>(
 {
     let (at, inner) = at.open(Kind::Record, depth)?;
     let (first, at) = field_list(alloc, at, inner)?;
-    let (more, at) = field_list_list(alloc, at, inner)?;
+    let (more, at) = field_lists(alloc, at, inner)?;
     let at = at.expect(Kind::End)?;
     let first = Box::new(alloc, first)?;
     let (node, at) = at.count()?;
@@ -254,7 +254,7 @@ fn fields<'t, 's>(
 }
 
 #[cycle(types)]
-fn field_list_list<'t, 's>(
+fn field_lists<'t, 's>(
     alloc: Global,
     mut at: Cursor<'t, 's>,
     depth: u32,
