@@ -33,7 +33,8 @@ use std::alloc::Global;
 /// What reading the statements inside a parenthesis gives.
 pub type StmtsRead<'t, 's> = Result<(Stmts, Cursor<'t, 's>), Fault<'t, 's>>;
 
-/// An expression.
+/// An expression; what stands behind it is left to the caller. `depth` counts the brackets that are
+/// open here, and `inside` reads the statements that stand in a parenthesis.
 #[cycle(values)]
 pub fn expr<'t, 's, S>(
     alloc: Global,
@@ -377,7 +378,8 @@ where
     chr_of(numbered(followed_by(value, Kind::CloseParen)))
 }
 
-/// The arguments of a call, where an opening parenthesis stands.
+/// The arguments of a call with their parentheses, which may be empty; None where no `(` stands
+/// here. `depth` is that before the parenthesis.
 #[cycle(values)]
 pub fn args<'t, 's, S>(
     alloc: Global,
@@ -421,7 +423,7 @@ where
     present(followed_by(exprs(alloc, at, depth, inside), Kind::CloseParen))
 }
 
-/// Expressions with commas between them.
+/// One expression or more with commas between them.
 #[cycle(values)]
 pub fn exprs<'t, 's, S>(
     alloc: Global,
@@ -462,7 +464,7 @@ where
     Ok((more, at))
 }
 
-/// A designator: a name, with indices and fields behind it.
+/// A designator: a name, and any number of indices and fields behind it.
 #[cycle(values)]
 pub fn desig<'t, 's, S>(
     alloc: Global,
