@@ -3,8 +3,7 @@ ghost use Rattle.std.specs.Prelude.{◌∷◌, ◌<◌, length, MatchResult, IfO
 ghost use Rattle.alma_tree.specs.Spelling.{spell_block, spell_decl_tail, spell_decl};
 ghost use Rattle.alma_tree.specs.View.{view_decl, decls_of, view_block};
 ghost use Rattle.alma_tree.specs.Numbers.{number_decl, numbers_of_decls, number_block};
-ghost use Rattle.alma_grammar.specs.Parts.{decl_tail};
-ghost use Rattle.alma_grammar.specs.Parts.{block_parts};
+ghost use Rattle.alma_grammar.specs.Parts.{block_parts, decl_tail};
 ghost use Rattle.alma_parse_cursor.specs.Forms.{procedure_parts, decl_form_parts};
 ghost use Rattle.alma_parse_cursor.specs.Parsing.{position_of, Reads, Fails};
 

@@ -1,5 +1,5 @@
 // The entries of declarations: constants, types, variables, parameters, results and bodies.
-ghost use Rattle.std.specs.Prelude.{◌∷◌, ◌<◌, ℕ, pred, length, MatchResult, IfOk, Some, None};
+ghost use Rattle.std.specs.Prelude.{◌∷◌, ◌<◌, ℕ, pred, length, MatchResult, IfOk};
 ghost use Rattle.alma_tree.specs.Spelling.{spell_const_tail, spell_type_tail, spell_var_tail, spell_formal, spell_formal_tail, spell_formals, spell_params};
 ghost use Rattle.alma_tree.specs.Spelling.{spell_result_name, spell_body, spell_decl};
 ghost use Rattle.alma_tree.specs.View.{consts_of, types_of, vars_of, view_formal, formal_tail_of, view_formals, params_of, result_of, body_of};

@@ -29,20 +29,20 @@ pub fn parse(alloc: Global, tokens: &[Token<'_>]) -> Result<Module, ParseError>
         Ok(module) => Ok(module),
         Err(Fault::Unexpected(rest)) => Err(ParseError::Syntax(
             SyntaxFault::Unexpected,
-            place_of(tokens, rest),
+            index_of(tokens, rest),
         )),
         Err(Fault::TooDeep(rest)) => Err(ParseError::Syntax(
             SyntaxFault::TooDeep,
-            place_of(tokens, rest),
+            index_of(tokens, rest),
         )),
         Err(Fault::Memory) => Err(ParseError::Memory),
     }
 }
 
-/// How many tokens stand before the rest.
-fn place_of(tokens: &[Token<'_>], rest: &[Token<'_>]) -> usize
+/// The index of the first token of the rest: how many stand before it.
+fn index_of(tokens: &[Token<'_>], rest: &[Token<'_>]) -> usize
     requires shorter { length rest.now ≤ length tokens.now }
-    ensures place { result ≡ length tokens.now - length rest.now }
+    ensures index { result ≡ length tokens.now - length rest.now }
 {
     tokens.len() - rest.len()
 }

@@ -1,5 +1,5 @@
 // Types.
-ghost use Rattle.std.specs.Prelude.{◌∷◌, ◌<◌, ℕ, length, MatchResult, IfOk, Some, None};
+ghost use Rattle.std.specs.Prelude.{◌∷◌, ◌<◌, ℕ, length, MatchResult, IfOk};
 ghost use Rattle.alma_tree.specs.Spelling.{spell_type_node, spell_array_tail, spell_dimensions, spell_plain_type, spell_plain_tail, spell_field_list};
 ghost use Rattle.alma_tree.specs.Spelling.{spell_field_list_tail};
 ghost use Rattle.alma_tree.specs.View.{view_type_node, arrays_of, view_dimension, dimensions_of, view_plain_type, plains_of, view_field_list};
@@ -183,7 +183,7 @@ fn record_type<'t, 's>(
 {
     let (at, inner) = at.open(Kind::Record, depth)?;
     let (first, at) = field_list(alloc, at, inner)?;
-    let (more, at) = field_list_list(alloc, at, inner)?;
+    let (more, at) = field_lists(alloc, at, inner)?;
     let at = at.expect(Kind::End)?;
     let first = Box::new(alloc, first)?;
     let (node, at) = at.count()?;
@@ -254,7 +254,7 @@ fn fields<'t, 's>(
 }
 
 #[cycle(types)]
-fn field_list_list<'t, 's>(
+fn field_lists<'t, 's>(
     alloc: Global,
     mut at: Cursor<'t, 's>,
     depth: u32,

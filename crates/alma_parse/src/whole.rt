@@ -15,7 +15,7 @@ use alma_scan::Token;
 use alma_tree::{Kind, Module};
 use std::alloc::Global;
 
-/// The module that all of the tokens spell.
+/// The module that all of the tokens spell. Its nodes and tokens are numbered from 0.
 pub fn module<'t, 's>(alloc: Global, tokens: &'t [Token<'s>]) -> Result<Module, Fault<'t, 's>>
     requires few { length tokens.now ≤ source_limit }
     ensures read { MatchResult result

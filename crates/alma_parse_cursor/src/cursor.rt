@@ -15,7 +15,7 @@ pub struct Cursor<'t, 's> {
 }
 
 impl<'t, 's> Cursor<'t, 's> {
-    ghost use Rattle.std.specs.Prelude.{◌≡◌, ℕ, ◌∷◌, [], MatchOption, MatchResult, true, false, Some};
+    ghost use Rattle.std.specs.Prelude.{◌≡◌, ℕ, ◌∷◌, [], MatchOption, MatchResult, true, false};
     ghost use Rattle.alma_tree.specs.declared.kind.Kind.TheVariants as kinds;
     ghost use Rattle.alma_tree.specs.Depth.{opens};
     ghost use Rattle.alma_tree.specs.Numbers.{number_name};

@@ -1,11 +1,10 @@
 // Which form of a part the next token begins.
-ghost use Rattle.std.specs.Prelude.{◌≡◌, ◌∷◌, if◌then◌else◌, ℕ, true, false, MatchOption, MatchResult, IfSome, Some, None};
+ghost use Rattle.std.specs.Prelude.{◌≡◌, ◌∷◌, if◌then◌else◌, ℕ, MatchOption, MatchResult, Some, None};
 ghost use Rattle.alma_tree.specs.Spelling.{add_kind, mul_kind, relation_kind, spell_sign, spell_mode};
 ghost use Rattle.alma_tree.specs.Numbers.{number_sign, number_mode};
 ghost use Rattle.alma_grammar.specs.Parts.{begins, sign_part, factor_tail, term_tail, compared_part, stmt_part, primary_part, selector_tail};
 ghost use Rattle.alma_grammar.specs.Parts.{arm_part, returned_part};
 ghost use Rattle.alma_grammar.specs.Parts.{mode_part, plain_part, decl_tail, expr_parts};
-ghost use Rattle.alma_parse_cursor.specs.declared.fault.Fault.TheVariants as faults;
 ghost use Rattle.alma_parse_cursor.specs.Forms.{stmt_form_parts, primary_form_parts, selector_form_parts, labelled_parts};
 ghost use Rattle.alma_parse_cursor.specs.Forms.{plain_form_parts, decl_form_parts};
 ghost use Rattle.alma_parse_cursor.specs.Parsing.{position_of, Passes, Becomes, Reads, Fails};

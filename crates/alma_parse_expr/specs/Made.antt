@@ -4,6 +4,7 @@ use Rattle.alma_parse_cursor.specs.declared.cursor.Cursor.{Cursor}
 use Rattle.alma_parse_cursor.specs.declared.fault.Fault.{Fault}
 use Rattle.alma_parse_cursor.specs.declared.fault.Fault.TheVariants as faults
 
+-- what a function gives of the value of the part, at the cursor behind it
 abbrev pub made : {T U : Type 0} → (T → U) → Result (T × Cursor) Fault → Result (U × Cursor) Fault
 made f (Ok t) = Ok (f t.0, t.1)
 made f (Err e) = Err e

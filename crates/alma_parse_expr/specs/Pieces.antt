@@ -14,13 +14,15 @@ abbrev pub inside_of : Option Exprs → InsideArgs
 inside_of None = closed_args
 inside_of (Some es) = filled_args (view_exprs es)
 
+-- their numbers, where the closing parenthesis is a token
 abbrev pub number_inside_args : Option Exprs → Step
 number_inside_args None = token
 number_inside_args (Some es) = number_exprs es >> token
 
--- a sign and the term behind it
+-- how a sign, or none, and the term behind it are spelled
 abbrev pub spell_signed : Option Sign → Term → List Kind → List Kind
 spell_signed sign t rest = spell_sign sign (spell_term (view_term t) rest)
 
+-- and their numbers: a sign is a token, and none is not
 abbrev pub number_signed : Option Sign → Term → Step
 number_signed sign t = number_sign sign >> number_term t

@@ -1,10 +1,10 @@
 // Expressions and designators.
-ghost use Rattle.std.specs.Prelude.{◌∷◌, ◌<◌, pred, length, MatchResult, IfOk, Some, None};
+ghost use Rattle.std.specs.Prelude.{◌∷◌, ◌<◌, pred, length, MatchResult, IfOk};
 ghost use Rattle.alma_tree.specs.Spelling.{spell_expr, spell_compared, spell_simple, spell_term_tail, spell_term, spell_factor_tail};
 ghost use Rattle.alma_tree.specs.Spelling.{spell_factor, spell_primary, spell_args, spell_exprs, spell_expr_tail, spell_desig, spell_selector_tail};
 ghost use Rattle.alma_tree.specs.Spelling.{spell_selector};
 ghost use Rattle.alma_tree.specs.View.{view_expr, compared_of, view_simple, terms_of, view_term, factors_of, view_factor, view_primary, args_of};
-ghost use Rattle.alma_tree.specs.View.{args_values, view_exprs, exprs_of, view_desig, selectors_of, view_selector};
+ghost use Rattle.alma_tree.specs.View.{view_exprs, exprs_of, view_desig, selectors_of, view_selector};
 ghost use Rattle.alma_tree.specs.Numbers.{number_expr, numbers_of_compared, number_simple, numbers_of_terms, number_term, numbers_of_factors};
 ghost use Rattle.alma_tree.specs.Numbers.{number_factor, number_primary, numbers_of_args, number_exprs, numbers_of_exprs, number_desig, numbers_of_selectors};
 ghost use Rattle.alma_tree.specs.Numbers.{number_selector};
@@ -33,7 +33,8 @@ use std::alloc::Global;
 /// What reading the statements inside a parenthesis gives.
 pub type StmtsRead<'t, 's> = Result<(Stmts, Cursor<'t, 's>), Fault<'t, 's>>;
 
-/// An expression.
+/// An expression; what stands behind it is left to the caller. `depth` counts the brackets that are
+/// open here, and `inside` reads the statements that stand in a parenthesis.
 #[cycle(values)]
 pub fn expr<'t, 's, S>(
     alloc: Global,
@@ -377,7 +378,8 @@ where
     chr_of(numbered(followed_by(value, Kind::CloseParen)))
 }
 
-/// The arguments of a call, where an opening parenthesis stands.
+/// The arguments of a call with their parentheses, which may be empty; None where no `(` stands
+/// here. `depth` is that before the parenthesis.
 #[cycle(values)]
 pub fn args<'t, 's, S>(
     alloc: Global,
@@ -421,7 +423,7 @@ where
     present(followed_by(exprs(alloc, at, depth, inside), Kind::CloseParen))
 }
 
-/// Expressions with commas between them.
+/// One expression or more with commas between them.
 #[cycle(values)]
 pub fn exprs<'t, 's, S>(
     alloc: Global,
@@ -462,7 +464,7 @@ where
     Ok((more, at))
 }
 
-/// A designator: a name, with indices and fields behind it.
+/// A designator: a name, and any number of indices and fields behind it.
 #[cycle(values)]
 pub fn desig<'t, 's, S>(
     alloc: Global,

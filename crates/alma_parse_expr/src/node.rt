@@ -1,13 +1,13 @@
 // Nodes of expressions and designators, of the last part that was read.
 ghost use Rattle.std.specs.Prelude.{◌≡◌, Some};
-ghost use Rattle.alma_tree.specs.declared.phrase.Expr as de;
-ghost use Rattle.alma_tree.specs.declared.phrase.AddLink as dk;
-ghost use Rattle.alma_tree.specs.declared.phrase.Term as dm;
-ghost use Rattle.alma_tree.specs.declared.phrase.Factor as dr;
-ghost use Rattle.alma_tree.specs.declared.phrase.Primary as dp;
-ghost use Rattle.alma_tree.specs.declared.phrase.Args as dg;
-ghost use Rattle.alma_tree.specs.declared.phrase.Exprs as dx;
-ghost use Rattle.alma_tree.specs.declared.phrase.Selector as dj;
+ghost use Rattle.alma_tree.specs.declared.phrase.Expr as expressions;
+ghost use Rattle.alma_tree.specs.declared.phrase.AddLink as add_links;
+ghost use Rattle.alma_tree.specs.declared.phrase.Term as terms;
+ghost use Rattle.alma_tree.specs.declared.phrase.Factor as factors;
+ghost use Rattle.alma_tree.specs.declared.phrase.Primary as primaries;
+ghost use Rattle.alma_tree.specs.declared.phrase.Args as arguments;
+ghost use Rattle.alma_tree.specs.declared.phrase.Exprs as expression_lists;
+ghost use Rattle.alma_tree.specs.declared.phrase.Selector as selectors;
 ghost use Rattle.alma_parse_expr.specs.Made.{made, Made};
 ghost use Rattle.alma_parse_expr.specs.Nodes.{ComparedWith, SumOf};
 
@@ -23,7 +23,7 @@ pub fn expr_of<'t, 's>(
     left: Simple,
     right: Result<((Option<Box<Compared>>, u32), Cursor<'t, 's>), Fault<'t, 's>>,
 ) -> Result<(Expr, Cursor<'t, 's>), Fault<'t, 's>>
-    ensures made { result ≡ made (λ v. de.roll-Expr
+    ensures made { result ≡ made (λ v. expressions.roll-Expr
         (record { node = v.1; left = left; right = v.0 })) right.entry }
 {
     let ((right, node), at) = right?;
@@ -72,7 +72,7 @@ pub fn add_link<'t, 's>(
     operator: AddOperator,
     operand: Result<(Term, Cursor<'t, 's>), Fault<'t, 's>>,
 ) -> Result<(AddLink, Cursor<'t, 's>), Fault<'t, 's>>
-    ensures made { result ≡ made (λ v. dk.roll-AddLink
+    ensures made { result ≡ made (λ v. add_links.roll-AddLink
         (record { operator = operator; operand = v })) operand.entry }
 {
     let (operand, at) = operand?;
@@ -84,7 +84,7 @@ pub fn term_of<'t, 's>(
     first: Factor,
     more: Result<((Vec<MulLink>, u32), Cursor<'t, 's>), Fault<'t, 's>>,
 ) -> Result<(Term, Cursor<'t, 's>), Fault<'t, 's>>
-    ensures made { result ≡ made (λ v. dm.roll-Term
+    ensures made { result ≡ made (λ v. terms.roll-Term
         (record { node = v.1; first = first; more = v.0 })) more.entry }
 {
     let ((more, node), at) = more?;
@@ -106,7 +106,7 @@ pub fn mul_link<'t, 's>(
 pub fn not_of<'t, 's>(
     primary: Result<((Primary, u32), Cursor<'t, 's>), Fault<'t, 's>>,
 ) -> Result<(Factor, Cursor<'t, 's>), Fault<'t, 's>>
-    ensures made { result ≡ made (λ v. dr.Not v.1 v.0) primary.entry }
+    ensures made { result ≡ made (λ v. factors.Not v.1 v.0) primary.entry }
 {
     let ((primary, node), at) = primary?;
     Ok((Factor::Not { node, primary }, at))
@@ -116,7 +116,7 @@ pub fn not_of<'t, 's>(
 pub fn plain_of<'t, 's>(
     primary: Result<((Primary, u32), Cursor<'t, 's>), Fault<'t, 's>>,
 ) -> Result<(Factor, Cursor<'t, 's>), Fault<'t, 's>>
-    ensures made { result ≡ made (λ v. dr.Plain v.1 v.0) primary.entry }
+    ensures made { result ≡ made (λ v. factors.Plain v.1 v.0) primary.entry }
 {
     let ((primary, node), at) = primary?;
     Ok((Factor::Plain { node, primary }, at))
@@ -126,7 +126,7 @@ pub fn plain_of<'t, 's>(
 pub fn paren_of<'t, 's>(
     body: Result<((Box<Stmts>, u32), Cursor<'t, 's>), Fault<'t, 's>>,
 ) -> Result<(Primary, Cursor<'t, 's>), Fault<'t, 's>>
-    ensures made { result ≡ made (λ v. dp.Paren v.1 v.0) body.entry }
+    ensures made { result ≡ made (λ v. primaries.Paren v.1 v.0) body.entry }
 {
     let ((body, node), at) = body?;
     Ok((Primary::Paren { node, body }, at))
@@ -136,7 +136,7 @@ pub fn paren_of<'t, 's>(
 pub fn known_of<'t, 's>(
     desig: Result<((Desig, u32), Cursor<'t, 's>), Fault<'t, 's>>,
 ) -> Result<(Primary, Cursor<'t, 's>), Fault<'t, 's>>
-    ensures made { result ≡ made (λ v. dp.Known v.1 v.0) desig.entry }
+    ensures made { result ≡ made (λ v. primaries.Known v.1 v.0) desig.entry }
 {
     let ((desig, node), at) = desig?;
     Ok((Primary::Known { node, desig }, at))
@@ -146,7 +146,7 @@ pub fn known_of<'t, 's>(
 pub fn ord_of<'t, 's>(
     value: Result<((Box<Expr>, u32), Cursor<'t, 's>), Fault<'t, 's>>,
 ) -> Result<(Primary, Cursor<'t, 's>), Fault<'t, 's>>
-    ensures made { result ≡ made (λ v. dp.Ord v.1 v.0) value.entry }
+    ensures made { result ≡ made (λ v. primaries.Ord v.1 v.0) value.entry }
 {
     let ((value, node), at) = value?;
     Ok((Primary::Ord { node, value }, at))
@@ -156,7 +156,7 @@ pub fn ord_of<'t, 's>(
 pub fn chr_of<'t, 's>(
     value: Result<((Box<Expr>, u32), Cursor<'t, 's>), Fault<'t, 's>>,
 ) -> Result<(Primary, Cursor<'t, 's>), Fault<'t, 's>>
-    ensures made { result ≡ made (λ v. dp.Chr v.1 v.0) value.entry }
+    ensures made { result ≡ made (λ v. primaries.Chr v.1 v.0) value.entry }
 {
     let ((value, node), at) = value?;
     Ok((Primary::Chr { node, value }, at))
@@ -166,7 +166,7 @@ pub fn chr_of<'t, 's>(
 pub fn index_of<'t, 's>(
     indices: Result<((Exprs, u32), Cursor<'t, 's>), Fault<'t, 's>>,
 ) -> Result<(Selector, Cursor<'t, 's>), Fault<'t, 's>>
-    ensures made { result ≡ made (λ v. dj.Index v.1 v.0) indices.entry }
+    ensures made { result ≡ made (λ v. selectors.Index v.1 v.0) indices.entry }
 {
     let ((indices, node), at) = indices?;
     Ok((Selector::Index { node, indices }, at))
@@ -177,7 +177,7 @@ pub fn named_of<'t, 's>(
     desig: Desig,
     args: Result<((Option<Args>, u32), Cursor<'t, 's>), Fault<'t, 's>>,
 ) -> Result<(Primary, Cursor<'t, 's>), Fault<'t, 's>>
-    ensures made { result ≡ made (λ v. dp.Desig v.1 desig v.0) args.entry }
+    ensures made { result ≡ made (λ v. primaries.Desig v.1 desig v.0) args.entry }
 {
     let ((args, node), at) = args?;
     Ok((Primary::Desig { node, desig, args }, at))
@@ -187,7 +187,8 @@ pub fn named_of<'t, 's>(
 pub fn arguments_of<'t, 's>(
     values: Result<(Option<Exprs>, Cursor<'t, 's>), Fault<'t, 's>>,
 ) -> Result<(Option<Args>, Cursor<'t, 's>), Fault<'t, 's>>
-    ensures made { result ≡ made (λ v. Some (dg.roll-Args (record { values = v }))) values.entry }
+    ensures made { result
+        ≡ made (λ v. Some (arguments.roll-Args (record { values = v }))) values.entry }
 {
     let (values, at) = values?;
     Ok((Some(Args { values }), at))
@@ -198,7 +199,7 @@ pub fn expressions_of<'t, 's>(
     first: Box<Expr>,
     more: Result<(Vec<Expr>, Cursor<'t, 's>), Fault<'t, 's>>,
 ) -> Result<(Exprs, Cursor<'t, 's>), Fault<'t, 's>>
-    ensures made { result ≡ made (λ v. dx.roll-Exprs
+    ensures made { result ≡ made (λ v. expression_lists.roll-Exprs
         (record { first = first; more = v })) more.entry }
 {
     let (more, at) = more?;

@@ -1,5 +1,5 @@
 // Control statements.
-ghost use Rattle.std.specs.Prelude.{◌∷◌, MatchResult, Some, None};
+ghost use Rattle.std.specs.Prelude.{◌∷◌, MatchResult};
 ghost use Rattle.alma_tree.specs.Spelling.{spell_stmt, spell_elsif_tail, spell_else, spell_by};
 ghost use Rattle.alma_tree.specs.Spelling.{spell_arm, spell_arm_tail, spell_label, spell_high, spell_label_tail};
 ghost use Rattle.alma_tree.specs.View.{view_stmt, elsifs_of, else_of, by_of, view_arm, arms_of};

@@ -1,9 +1,9 @@
 // Statements, of the last part that was read.
 ghost use Rattle.std.specs.Prelude.{◌≡◌, ℕ, MatchResult};
-ghost use Rattle.alma_tree.specs.declared.phrase.Stmt as dt;
-ghost use Rattle.alma_tree.specs.declared.phrase.Elsif as df;
-ghost use Rattle.alma_tree.specs.declared.phrase.Arm as da;
-ghost use Rattle.alma_tree.specs.declared.phrase.Label as dl;
+ghost use Rattle.alma_tree.specs.declared.phrase.Stmt as statements;
+ghost use Rattle.alma_tree.specs.declared.phrase.Elsif as elsif_parts;
+ghost use Rattle.alma_tree.specs.declared.phrase.Arm as arms;
+ghost use Rattle.alma_tree.specs.declared.phrase.Label as labels;
 ghost use Rattle.alma_tree.specs.Spelling.{spell_stmt, spell_arm};
 ghost use Rattle.alma_tree.specs.View.{view_stmt, view_arm};
 ghost use Rattle.alma_tree.specs.Numbers.{number_stmt, number_arm};
@@ -52,7 +52,7 @@ pub fn assign_of<'t, 's>(
     target: Desig,
     value: Result<((Expr, u32), Cursor<'t, 's>), Fault<'t, 's>>,
 ) -> Result<(Stmt, Cursor<'t, 's>), Fault<'t, 's>>
-    ensures made { result ≡ made (λ v. dt.Assign v.1 target v.0) value.entry }
+    ensures made { result ≡ made (λ v. statements.Assign v.1 target v.0) value.entry }
 {
     let ((value, node), at) = value?;
     Ok((
@@ -69,7 +69,7 @@ pub fn assign_of<'t, 's>(
 pub fn value_of<'t, 's>(
     value: Result<((Expr, u32), Cursor<'t, 's>), Fault<'t, 's>>,
 ) -> Result<(Stmt, Cursor<'t, 's>), Fault<'t, 's>>
-    ensures made { result ≡ made (λ v. dt.Value v.1 v.0) value.entry }
+    ensures made { result ≡ made (λ v. statements.Value v.1 v.0) value.entry }
 {
     let ((value, node), at) = value?;
     Ok((Stmt::Value { node, value }, at))
@@ -82,7 +82,7 @@ pub fn if_of<'t, 's>(
     elsifs: Vec<Elsif>,
     otherwise: Result<((Option<Stmts>, u32), Cursor<'t, 's>), Fault<'t, 's>>,
 ) -> Result<(Stmt, Cursor<'t, 's>), Fault<'t, 's>>
-    ensures made { result ≡ made (λ v. dt.If v.1 test then elsifs v.0) otherwise.entry }
+    ensures made { result ≡ made (λ v. statements.If v.1 test then elsifs v.0) otherwise.entry }
 {
     let ((otherwise, node), at) = otherwise?;
     Ok((
@@ -103,7 +103,7 @@ pub fn elsif_of<'t, 's>(
     then: Result<(Stmts, Cursor<'t, 's>), Fault<'t, 's>>,
 ) -> Result<(Elsif, Cursor<'t, 's>), Fault<'t, 's>>
     ensures made { result
-        ≡ made (λ v. df.roll-Elsif (record { test = test; then = v })) then.entry }
+        ≡ made (λ v. elsif_parts.roll-Elsif (record { test = test; then = v })) then.entry }
 {
     let (then, at) = then?;
     Ok((Elsif { test, then }, at))
@@ -114,7 +114,7 @@ pub fn while_of<'t, 's>(
     test: Expr,
     body: Result<((Stmts, u32), Cursor<'t, 's>), Fault<'t, 's>>,
 ) -> Result<(Stmt, Cursor<'t, 's>), Fault<'t, 's>>
-    ensures made { result ≡ made (λ v. dt.While v.1 test v.0) body.entry }
+    ensures made { result ≡ made (λ v. statements.While v.1 test v.0) body.entry }
 {
     let ((body, node), at) = body?;
     Ok((Stmt::While { node, test, body }, at))
@@ -125,7 +125,7 @@ pub fn repeat_of<'t, 's>(
     body: Stmts,
     test: Result<((Expr, u32), Cursor<'t, 's>), Fault<'t, 's>>,
 ) -> Result<(Stmt, Cursor<'t, 's>), Fault<'t, 's>>
-    ensures made { result ≡ made (λ v. dt.Repeat v.1 body v.0) test.entry }
+    ensures made { result ≡ made (λ v. statements.Repeat v.1 body v.0) test.entry }
 {
     let ((test, node), at) = test?;
     Ok((Stmt::Repeat { node, body, test }, at))
@@ -139,7 +139,7 @@ pub fn for_of<'t, 's>(
     by: Option<Expr>,
     body: Result<((Stmts, u32), Cursor<'t, 's>), Fault<'t, 's>>,
 ) -> Result<(Stmt, Cursor<'t, 's>), Fault<'t, 's>>
-    ensures made { result ≡ made (λ v. dt.For v.1 variable from to by v.0) body.entry }
+    ensures made { result ≡ made (λ v. statements.For v.1 variable from to by v.0) body.entry }
 {
     let ((body, node), at) = body?;
     Ok((
@@ -162,7 +162,7 @@ pub fn some_of<'t, 's>(
     to: Expr,
     body: Result<((Stmts, u32), Cursor<'t, 's>), Fault<'t, 's>>,
 ) -> Result<(Stmt, Cursor<'t, 's>), Fault<'t, 's>>
-    ensures made { result ≡ made (λ v. dt.Some v.1 variable from to v.0) body.entry }
+    ensures made { result ≡ made (λ v. statements.Some v.1 variable from to v.0) body.entry }
 {
     let ((body, node), at) = body?;
     Ok((
@@ -184,7 +184,7 @@ pub fn case_of<'t, 's>(
     more: Vec<Arm>,
     otherwise: Result<((Option<Stmts>, u32), Cursor<'t, 's>), Fault<'t, 's>>,
 ) -> Result<(Stmt, Cursor<'t, 's>), Fault<'t, 's>>
-    ensures made { result ≡ made (λ v. dt.Case v.1 value first more v.0) otherwise.entry }
+    ensures made { result ≡ made (λ v. statements.Case v.1 value first more v.0) otherwise.entry }
 {
     let ((otherwise, node), at) = otherwise?;
     Ok((
@@ -205,7 +205,7 @@ pub fn labelled_of<'t, 's>(
     more: Vec<Label>,
     body: Result<((Stmts, u32), Cursor<'t, 's>), Fault<'t, 's>>,
 ) -> Result<(Arm, Cursor<'t, 's>), Fault<'t, 's>>
-    ensures made { result ≡ made (λ v. da.Labelled v.1 first more v.0) body.entry }
+    ensures made { result ≡ made (λ v. arms.Labelled v.1 first more v.0) body.entry }
 {
     let ((body, node), at) = body?;
     Ok((
@@ -225,7 +225,7 @@ pub fn label_of<'t, 's>(
     high: Result<((Option<Expr>, u32), Cursor<'t, 's>), Fault<'t, 's>>,
 ) -> Result<(Label, Cursor<'t, 's>), Fault<'t, 's>>
     ensures made { result
-        ≡ made (λ v. dl.roll-Label (record { node = v.1; low = low; high = v.0 })) high.entry }
+        ≡ made (λ v. labels.roll-Label (record { node = v.1; low = low; high = v.0 })) high.entry }
 {
     let ((high, node), at) = high?;
     Ok((Label { node, low, high }, at))
@@ -236,7 +236,7 @@ pub fn either_of<'t, 's>(
     first: Stmts,
     more: Result<((Vec<Stmts>, u32), Cursor<'t, 's>), Fault<'t, 's>>,
 ) -> Result<(Stmt, Cursor<'t, 's>), Fault<'t, 's>>
-    ensures made { result ≡ made (λ v. dt.Either v.1 first v.0) more.entry }
+    ensures made { result ≡ made (λ v. statements.Either v.1 first v.0) more.entry }
 {
     let ((more, node), at) = more?;
     Ok((Stmt::Either { node, first, more }, at))
@@ -247,7 +247,7 @@ pub fn forall_of<'t, 's>(
     choice: Stmts,
     body: Result<((Stmts, u32), Cursor<'t, 's>), Fault<'t, 's>>,
 ) -> Result<(Stmt, Cursor<'t, 's>), Fault<'t, 's>>
-    ensures made { result ≡ made (λ v. dt.Forall v.1 choice v.0) body.entry }
+    ensures made { result ≡ made (λ v. statements.Forall v.1 choice v.0) body.entry }
 {
     let ((body, node), at) = body?;
     Ok((Stmt::Forall { node, choice, body }, at))
@@ -257,7 +257,7 @@ pub fn forall_of<'t, 's>(
 pub fn commit_of<'t, 's>(
     body: Result<((Stmts, u32), Cursor<'t, 's>), Fault<'t, 's>>,
 ) -> Result<(Stmt, Cursor<'t, 's>), Fault<'t, 's>>
-    ensures made { result ≡ made (λ v. dt.Commit v.1 v.0) body.entry }
+    ensures made { result ≡ made (λ v. statements.Commit v.1 v.0) body.entry }
 {
     let ((body, node), at) = body?;
     Ok((Stmt::Commit { node, body }, at))
@@ -267,7 +267,7 @@ pub fn commit_of<'t, 's>(
 pub fn return_of<'t, 's>(
     value: Result<((Option<Expr>, u32), Cursor<'t, 's>), Fault<'t, 's>>,
 ) -> Result<(Stmt, Cursor<'t, 's>), Fault<'t, 's>>
-    ensures made { result ≡ made (λ v. dt.Return v.1 v.0) value.entry }
+    ensures made { result ≡ made (λ v. statements.Return v.1 v.0) value.entry }
 {
     let ((value, node), at) = value?;
     Ok((Stmt::Return { node, value }, at))
@@ -278,7 +278,7 @@ pub fn read_of<'t, 's>(
     first: Desig,
     more: Result<((Vec<Desig>, u32), Cursor<'t, 's>), Fault<'t, 's>>,
 ) -> Result<(Stmt, Cursor<'t, 's>), Fault<'t, 's>>
-    ensures made { result ≡ made (λ v. dt.Read v.1 first v.0) more.entry }
+    ensures made { result ≡ made (λ v. statements.Read v.1 first v.0) more.entry }
 {
     let ((more, node), at) = more?;
     Ok((Stmt::Read { node, first, more }, at))
@@ -288,7 +288,7 @@ pub fn read_of<'t, 's>(
 pub fn write_of<'t, 's>(
     items: Result<((Exprs, u32), Cursor<'t, 's>), Fault<'t, 's>>,
 ) -> Result<(Stmt, Cursor<'t, 's>), Fault<'t, 's>>
-    ensures made { result ≡ made (λ v. dt.Write v.1 v.0) items.entry }
+    ensures made { result ≡ made (λ v. statements.Write v.1 v.0) items.entry }
 {
     let ((items, node), at) = items?;
     Ok((Stmt::Write { node, items }, at))
@@ -298,7 +298,7 @@ pub fn write_of<'t, 's>(
 pub fn writeln_of<'t, 's>(
     items: Result<((Option<Args>, u32), Cursor<'t, 's>), Fault<'t, 's>>,
 ) -> Result<(Stmt, Cursor<'t, 's>), Fault<'t, 's>>
-    ensures made { result ≡ made (λ v. dt.Writeln v.1 v.0) items.entry }
+    ensures made { result ≡ made (λ v. statements.Writeln v.1 v.0) items.entry }
 {
     let ((items, node), at) = items?;
     Ok((Stmt::Writeln { node, items }, at))

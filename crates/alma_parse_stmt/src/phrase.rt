@@ -19,7 +19,8 @@ fn tokens_left(at: Cursor<'_, '_>) -> usize
     at.rest.len()
 }
 
-/// An expression.
+/// An expression; what stands behind it is left to the caller. `depth` counts the brackets that are
+/// open here.
 pub fn expr<'t, 's>(
     alloc: Global,
     at: Cursor<'t, 's>,
@@ -39,8 +40,9 @@ pub fn expr<'t, 's>(
     )
 }
 
-/// One statement or more with semicolons between them. What stands in one of them, or in a
-/// parenthesis, is read by this again, with fewer tokens left.
+/// One statement or more with semicolons between them, any of which may be empty; what ends them is
+/// left to the caller. `depth` counts the brackets that are open here. What stands in a statement,
+/// or in a parenthesis, is read by this again, with fewer tokens left.
 #[cycle(phrases)]
 pub fn stmts<'t, 's>(
     alloc: Global,

@@ -1,5 +1,5 @@
 // Statements.
-ghost use Rattle.std.specs.Prelude.{◌∷◌, MatchResult, Some};
+ghost use Rattle.std.specs.Prelude.{◌∷◌, MatchResult};
 ghost use Rattle.alma_tree.specs.Spelling.{spell_stmts, spell_stmt_tail, spell_stmt, spell_orelse_tail};
 ghost use Rattle.alma_tree.specs.View.{view_stmts, stmts_of, view_stmt, orelses_of};
 ghost use Rattle.alma_tree.specs.Numbers.{number_stmts, numbers_of_stmts, number_stmt, numbers_of_orelses};

@@ -21,7 +21,7 @@ use Rattle.alma_rules.specs.Modules.{result_in, judge_body, routine_of, frame_of
 use Rattle.alma_rules.specs.Modules.{cons_routine, joined_routines, body_lines}
 use Rattle.alma_rules.proofs.Sound.{IsThere, nil_left, nil_right}
 use Rattle.alma_resolved.specs.Stand.{DeclsStand, DeclStands, BlockStands}
-use Rattle.alma_resolved.specs.Fits.{Place, Laid}
+use Rattle.alma_resolved.specs.Fits.{Place, PhrasesFit}
 use Rattle.alma_resolved.specs.Scenes.{structured_in, ReturnsFit, ReturnsSimple, SceneFits}
 use Rattle.alma_resolved.specs.Frames.{KeepsFrames}
 use Rattle.alma_resolved.proofs.Fits.{laid_nil}
@@ -189,11 +189,11 @@ head_simple s r n params (Some name) b there plain =
 -- ---- one body
 
 body_laid : (k : Place) (g : Frame) (body : Option tree.Stmts) → SceneFits k g.scene → g.scene.inside ≡ false → (y : ir.Stmts)
-    → (judge_body g body).value ≡ Some y → Laid k false g.slots (judge_body g body).next (stmts_phrases y)
+    → (judge_body g body).value ≡ Some y → PhrasesFit k false g.slots (judge_body g body).next (stmts_phrases y)
 unfolding stmts_phrases
 body_laid k g None fits i y e = let same : ir.no_stmts ≡ y = cc in
-    subst (λ z. Laid k false g.slots g.slots (stmts_phrases z)) same (laid_nil k false g.slots g.slots (omega arith))
-body_laid k g (Some body) fits i y e = subst (λ b. Laid k b g.slots (judge_body g (Some body)).next (stmts_phrases y)) i
+    subst (λ z. PhrasesFit k false g.slots g.slots (stmts_phrases z)) same (laid_nil k false g.slots g.slots (omega arith))
+body_laid k g (Some body) fits i y e = subst (λ b. PhrasesFit k b g.slots (judge_body g (Some body)).next (stmts_phrases y)) i
     (body_fits k g.scene fits g.slots body y e)
 
 -- a scene with more shapes
@@ -271,7 +271,7 @@ mutual
       let one : RoutineFits p ends k own = record {
         params = omega (arith, ap (λ qs. sum_by param_slots qs) own_params, frame.params, rise, ended.0);
         position = λ i. let some : 0 < f.slots = frame.position i in omega (arith, some, rise, ended.0);
-        body = subst (λ m. Laid (place p ends k) false m (judge_body (read_decls f r decls) body).next (stmts_phrases v.second))
+        body = subst (λ m. PhrasesFit (place p ends k) false m (judge_body (read_decls f r decls) body).next (stmts_phrases v.second))
             (sym ended.0) laid;
         cells = decls_small f r decls few;
         heads = record {

@@ -12,7 +12,7 @@ use Rattle.alma_ir.proofs.Each.{each_follows}
 use Rattle.alma_rules.specs.Numbered as tree
 use Rattle.alma_rules.specs.Scene.{Scene}
 use Rattle.alma_rules.specs.Walk.{judge_stmts}
-use Rattle.alma_resolved.specs.Fits.{Place, Fits, InFrame, Laid}
+use Rattle.alma_resolved.specs.Fits.{Place, Fits, InFrame, PhrasesFit}
 use Rattle.alma_resolved.specs.Scenes.{SceneFits}
 use Rattle.alma_resolved.specs.Keeps.{KeepsPhrase}
 use Rattle.alma_resolved.proofs.Fits.{when_is}
@@ -125,7 +125,7 @@ phrase_keeps k i lo hi x ends h = record {
 
 -- a body in a scene that fits
 pub body_fits : (k : Place) (s : Scene) → SceneFits k s → (n : ℕ) (x : tree.Stmts) (y : Stmts) → (judge_stmts s n x).value ≡ Some y
-    → Laid k s.inside n (judge_stmts s n x).next (stmts_phrases y)
+    → PhrasesFit k s.inside n (judge_stmts s n x).next (stmts_phrases y)
 body_fits k s e n x y i = when_is y i (stmts_fit e n x)
 
 pub body_keeps : (k : Place) (s : Scene) → EndsFit k → SceneFits k s → (n : ℕ) (x : tree.Stmts) (y : Stmts)

@@ -35,7 +35,7 @@ use Rattle.alma_rules.specs.ExprRules.{argument_rules, argument_rules_of, not_fi
 use Rattle.alma_rules.specs.ExprRules.{not_variable, name_rules}
 use Rattle.alma_rules.specs.Nodes.{cons_operand, not_typing}
 use Rattle.alma_rules.specs.Decls.{param_kind}
-use Rattle.alma_resolved.specs.Fits.{Place, Laid}
+use Rattle.alma_resolved.specs.Fits.{Place, PhrasesFit}
 use Rattle.alma_resolved.proofs.Fits.{laid_nil, laid_cons, laid_join, laid_wide, laid_both, laid_outside, When, when_some, when_none}
 use Rattle.alma_resolved.proofs.Fits.{when_map, when_node, when_unless, when_unless_none}
 use Rattle.alma_resolved.specs.Scenes.{CalleeFits, FormalFits, FormalsFit, ResultFits, FoundFits, SceneFits}
@@ -177,8 +177,8 @@ relation_fits {k} {s} e {lo} {mid} {hi} r v h =
 -- ---- sums and products
 
 pub record OperandsFit (k : Place) (s : Scene) (lo hi : ℕ) (xs : Operands) : Type 0 where
-  pub links : Laid k s.inside lo hi (links_phrases (links_of xs))
-  pub tests : Laid k s.inside lo hi (tests_phrases (tests_of xs))
+  pub links : PhrasesFit k s.inside lo hi (links_phrases (links_of xs))
+  pub tests : PhrasesFit k s.inside lo hi (tests_phrases (tests_of xs))
 
 pub no_operands : (k : Place) (s : Scene) (n : ℕ) → OperandsFit k s n n []
 unfolding expr_phrases
@@ -195,8 +195,8 @@ operands_fit {k} {s} e {lo} {mid} {hi} logical p simple g h =
 
 -- AND and OR with operands
 pub Joins : Place → (ir.Tests → ir.Test) → Type 0
-Joins k join = (i : Bool) (lo hi : ℕ) (t : ir.Test) (ts : ir.Tests) → Laid k i lo hi (test_phrases t ++ tests_phrases ts)
-    → Laid k i lo hi (test_phrases (join (ir.more_tests t ts)))
+Joins k join = (i : Bool) (lo hi : ℕ) (t : ir.Test) (ts : ir.Tests) → PhrasesFit k i lo hi (test_phrases t ++ tests_phrases ts)
+    → PhrasesFit k i lo hi (test_phrases (join (ir.more_tests t ts)))
 
 pub or_joins : (k : Place) → Joins k ir.Or
 unfolding expr_phrases Joins
@@ -311,7 +311,7 @@ DenotedIs k s c lo hi (a_variable l) = LocatedFits k s lo hi l
 DenotedIs k s c lo hi (a_routine q up h) = CalleeFits k s q up h × (lo ≤ hi) × (c ≡ false → wants_arguments h ≡ false)
 DenotedIs k s c lo hi no_array = Unit {0}
 
-nothing_laid : (k : Place) (s : Scene) (n : ℕ) → Laid k s.inside n n (sels_phrases ir.no_sels)
+nothing_laid : (k : Place) (s : Scene) (n : ℕ) → PhrasesFit k s.inside n n (sels_phrases ir.no_sels)
 unfolding sels_phrases
 nothing_laid k s n = laid_nil k s.inside n n (omega arith)
 
@@ -469,7 +469,7 @@ KindFits of_bad m = ⊥
 
 -- the argument fits its parameter
 abbrev pub ArgumentFits : Place → Scene → (lo hi : ℕ) → Param → ir.Arg → Type 0
-ArgumentFits k s lo hi q a = Laid k s.inside lo hi (arg_phrases a) × ArgFits q a
+ArgumentFits k s lo hi q a = PhrasesFit k s.inside lo hi (arg_phrases a) × ArgFits q a
 
 place_cells : {k : Place} {s : Scene} (e : SceneFits k s) (d : ir.Desig) (a b n : ℕ) → desig_cells d ≡ cells s a → n ≡ cells s b
     → base s a ≡ base s b → desig_cells d ≡ n
@@ -605,7 +605,8 @@ callee_fits no_array h = when_none
 
 -- arguments fit the parameters, where they are as many as the formals
 abbrev pub ArgsAre : Place → Scene → (lo hi : ℕ) → (count : ℕ) → List FormalOf → ir.Args → Type 0
-ArgsAre k s lo hi count fs args = (qs : List Param) → FormalsFit s fs qs → count ≡ length fs → Laid k s.inside lo hi (args_phrases args)
+ArgsAre k s lo hi count fs args = (qs : List Param) → FormalsFit s fs qs → count ≡ length fs
+    → PhrasesFit k s.inside lo hi (args_phrases args)
     × ArgsFit qs args
 
 pub record ArgumentsFit (k : Place) (s : Scene) (lo hi count : ℕ) (fs : List FormalOf) (args : ir.Args) : Type 0 where
@@ -613,7 +614,7 @@ pub record ArgumentsFit (k : Place) (s : Scene) (lo hi count : ℕ) (fs : List F
 
 call_is : {k : Place} {s : Scene} (e : SceneFits k s) {lo hi : ℕ} (c : Callee) (args : ir.Args) → CalleeFits k s c.number c.up c.heading
     → (o : Option ℕ) → ResultFits s o (routine_at k.program c.number)
-    → Laid k s.inside lo hi (args_phrases args) → ArgsFit (routine_at k.program c.number).params args
+    → PhrasesFit k s.inside lo hi (args_phrases args) → ArgsFit (routine_at k.program c.number).params args
     → TypingFits k s lo hi (call_typing c o args)
 unfolding expr_phrases
 call_is e c args h None r laid fit =

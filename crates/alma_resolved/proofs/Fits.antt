@@ -8,7 +8,7 @@ use Rattle.alma_ir.specs.Phrases.{Phrase, StmtPhrase}
 use Rattle.alma_ir.specs.Checked.{loops_of, LoopLeaves, IsNoReturn}
 use Rattle.alma_ir.proofs.Each.{each_of_append, each_follows}
 use Rattle.alma_rules.specs.Judgement.{unless, both_of}
-use Rattle.alma_resolved.specs.Fits.{Place, LoopFits, Fits, Laid}
+use Rattle.alma_resolved.specs.Fits.{Place, LoopFits, Fits, PhrasesFit}
 
 loop_wider : (lo hi low high : ℕ) (l : Loop) → low ≤ lo → hi ≤ high → LoopFits lo hi l → LoopFits low high l
 loop_wider lo hi low high (a_loop d range counter limit from to by body) p q h =
@@ -33,37 +33,37 @@ each_wider : (k : Place) (i : Bool) (lo hi low high : ℕ) (xs : List Phrase) �
     → AllByRecursion (Fits k i low high) xs
 each_wider k i lo hi low high xs p q h = each_follows (Fits k i lo hi) (Fits k i low high) (λ x g. wider k i lo hi low high x p q g) xs h
 
-pub laid_nil : (k : Place) (i : Bool) (lo hi : ℕ) → lo ≤ hi → Laid k i lo hi []
+pub laid_nil : (k : Place) (i : Bool) (lo hi : ℕ) → lo ≤ hi → PhrasesFit k i lo hi []
 laid_nil k i lo hi le = record { le = le; all = tt }
 
-pub laid_cons : {k : Place} {i : Bool} {lo hi : ℕ} {xs : List Phrase} (x : Phrase) → Fits k i lo hi x → Laid k i lo hi xs
-    → Laid k i lo hi (x ∷ xs)
+pub laid_cons : {k : Place} {i : Bool} {lo hi : ℕ} {xs : List Phrase} (x : Phrase) → Fits k i lo hi x → PhrasesFit k i lo hi xs
+    → PhrasesFit k i lo hi (x ∷ xs)
 laid_cons x f h = record { le = h.le; all = (f, h.all) }
 
-pub laid_join : {k : Place} {i : Bool} {lo mid hi : ℕ} {xs ys : List Phrase} → Laid k i lo mid xs → Laid k i mid hi ys
-    → Laid k i lo hi (xs ++ ys)
+pub laid_join : {k : Place} {i : Bool} {lo mid hi : ℕ} {xs ys : List Phrase} → PhrasesFit k i lo mid xs → PhrasesFit k i mid hi ys
+    → PhrasesFit k i lo hi (xs ++ ys)
 laid_join {k} {i} {lo} {mid} {hi} {xs} {ys} p q = record {
   le = omega (arith, p.le, q.le);
   all = each_of_append (Fits k i lo hi) xs ys (each_wider k i lo mid lo hi xs (omega arith) q.le p.all)
       (each_wider k i mid hi lo hi ys p.le (omega arith) q.all);
 }
 
-pub laid_wide : {k : Place} {i : Bool} {lo hi : ℕ} {xs : List Phrase} (low high : ℕ) → low ≤ lo → hi ≤ high → Laid k i lo hi xs
-    → Laid k i low high xs
+pub laid_wide : {k : Place} {i : Bool} {lo hi : ℕ} {xs : List Phrase} (low high : ℕ) → low ≤ lo → hi ≤ high → PhrasesFit k i lo hi xs
+    → PhrasesFit k i low high xs
 laid_wide {k} {i} {lo} {hi} {xs} low high a b p =
     record { le = omega (arith, a, b, p.le); all = each_wider k i lo hi low high xs a b p.all }
 
-pub laid_one : {k : Place} {i : Bool} {lo hi : ℕ} {xs : List Phrase} → Laid k i lo hi xs → Laid k i lo hi (xs ++ [])
+pub laid_one : {k : Place} {i : Bool} {lo hi : ℕ} {xs : List Phrase} → PhrasesFit k i lo hi xs → PhrasesFit k i lo hi (xs ++ [])
 laid_one {k} {i} {lo} {hi} {xs} p = record { le = p.le; all = each_of_append (Fits k i lo hi) xs [] p.all tt }
 
-pub laid_outside : {k : Place} {lo hi : ℕ} {xs : List Phrase} (i : Bool) → Laid k true lo hi xs → Laid k i lo hi xs
+pub laid_outside : {k : Place} {lo hi : ℕ} {xs : List Phrase} (i : Bool) → PhrasesFit k true lo hi xs → PhrasesFit k i lo hi xs
 laid_outside {k} {lo} {hi} {xs} i p = record {
   le = p.le;
   all =
       each_follows (Fits k true lo hi) (Fits k i lo hi) (outside k i lo hi) xs p.all;
 }
 
-pub laid_stays : {k : Place} {lo hi : ℕ} {xs : List Phrase} → Laid k true lo hi xs → AllByRecursion IsNoReturn xs
+pub laid_stays : {k : Place} {lo hi : ℕ} {xs : List Phrase} → PhrasesFit k true lo hi xs → AllByRecursion IsNoReturn xs
 laid_stays {k} {lo} {hi} {xs} p = each_follows (Fits k true lo hi) IsNoReturn (no_return k lo hi) xs p.all
 
 -- loops behind have other hidden slots
@@ -81,7 +81,7 @@ leaves k i n m lo hi p q (StmtPhrase (ForTo l)) h = (loop_leaves n m lo hi l p q
 leaves k i n m lo hi p q (StmtPhrase (SomeOf l)) h = (loop_leaves n m lo hi l p q h, tt)
 leaves k i n m lo hi p q x h = tt
 
-pub laid_leaves : {k : Place} {i : Bool} {lo hi : ℕ} {xs : List Phrase} (n m : ℕ) → n < lo → m < lo → Laid k i lo hi xs
+pub laid_leaves : {k : Place} {i : Bool} {lo hi : ℕ} {xs : List Phrase} (n m : ℕ) → n < lo → m < lo → PhrasesFit k i lo hi xs
     → AllByRecursion (λ x. AllByRecursion (LoopLeaves n m) (loops_of x)) xs
 laid_leaves {k} {i} {lo} {hi} {xs} n m p q h =
     each_follows (Fits k i lo hi) (λ x. AllByRecursion (LoopLeaves n m) (loops_of x)) (leaves k i n m lo hi p q) xs h.all
@@ -150,7 +150,8 @@ pub when_weaker : {A : Type 0} {P Q : A → Type 0} {v : Option A} → When v P 
 when_weaker {A} {P} {Q} {v = None} h g = record { gives = tt }
 when_weaker {A} {P} {Q} {v = Some x} h g = record { gives = g x h.gives }
 
-pub laid_both : {k : Place} {i : Bool} {lo hi : ℕ} {xs ys : List Phrase} → Laid k i lo hi xs → Laid k i lo hi ys → Laid k i lo hi (xs ++ ys)
+pub laid_both : {k : Place} {i : Bool} {lo hi : ℕ} {xs ys : List Phrase} → PhrasesFit k i lo hi xs → PhrasesFit k i lo hi ys
+    → PhrasesFit k i lo hi (xs ++ ys)
 laid_both {k} {i} {lo} {hi} {xs} {ys} p q = record { le = p.le; all = each_of_append (Fits k i lo hi) xs ys p.all q.all }
 
 pub when_pair : {A : Type 0} {P Q : A → Type 0} {v : Option A} → When v P → When v Q → When v (λ x. P x × Q x)

@@ -13,7 +13,7 @@ use Rattle.alma_rules.specs.Judgement.{when}
 use Rattle.alma_rules.specs.Scene.{Scene, FormalOf, Returns, nothing, a_value, Found, absent, bad, constant, named, variable, routine}
 use Rattle.alma_rules.specs.Scene.{found, in_constant, inside_of, base, cells, is_structured}
 use Rattle.alma_rules.specs.Parts.{Meaning, a_place, plain, a_test, Typing, value_of, test_of, no_place, Location, desig_of, with_sel}
-use Rattle.alma_resolved.specs.Fits.{Place, RootFits, Laid}
+use Rattle.alma_resolved.specs.Fits.{Place, RootFits, PhrasesFit}
 use Rattle.alma_resolved.specs.Scenes.{FormalsFit, ResultFits, FoundFits, ReturnsSimple, SceneFits}
 use Rattle.alma_resolved.proofs.Fits.{laid_cons, laid_join, laid_wide, laid_one}
 
@@ -139,15 +139,15 @@ env_inside k s e = record {
 -- ---- values
 
 abbrev pub MeaningFits : Place → Scene → (lo hi shape : ℕ) → Meaning → Type 0
-MeaningFits k s lo hi shape (a_place d) = Laid k s.inside lo hi (desig_phrases d) × (desig_cells d ≡ cells s shape)
-MeaningFits k s lo hi shape (plain e) = Laid k s.inside lo hi (expr_phrases e) × (is_structured s shape ≡ false)
-MeaningFits k s lo hi shape (a_test t) = Laid k s.inside lo hi (test_phrases t) × (is_structured s shape ≡ false)
+MeaningFits k s lo hi shape (a_place d) = PhrasesFit k s.inside lo hi (desig_phrases d) × (desig_cells d ≡ cells s shape)
+MeaningFits k s lo hi shape (plain e) = PhrasesFit k s.inside lo hi (expr_phrases e) × (is_structured s shape ≡ false)
+MeaningFits k s lo hi shape (a_test t) = PhrasesFit k s.inside lo hi (test_phrases t) × (is_structured s shape ≡ false)
 
 pub record TypingFits (k : Place) (s : Scene) (lo hi : ℕ) (t : Typing) : Type 0 where
   pub meaning : MeaningFits k s lo hi t.shape t.meaning
 
 value_in : (k : Place) (s : Scene) (e : SceneFits k s) (lo hi shape : ℕ) (m : Meaning) → is_structured s shape ≡ false
-    → MeaningFits k s lo hi shape m → Laid k s.inside lo hi (expr_phrases (value_of m))
+    → MeaningFits k s lo hi shape m → PhrasesFit k s.inside lo hi (expr_phrases (value_of m))
 unfolding expr_phrases
 value_in k s e lo hi shape (a_place d) simple h = laid_cons (ExprPhrase (ir.Load d)) (h.1 ∙ e.table.simple shape simple) h.0
 value_in k s e lo hi shape (plain x) simple h = h.0
@@ -155,11 +155,11 @@ value_in k s e lo hi shape (a_test t) simple h = laid_cons (ExprPhrase (ir.Truth
 
 -- a value of a simple type
 pub value_laid : {k : Place} {s : Scene} {lo hi : ℕ} {t : Typing} → SceneFits k s → is_structured s t.shape ≡ false → TypingFits k s lo hi t
-    → Laid k s.inside lo hi (expr_phrases (value_of t.meaning))
+    → PhrasesFit k s.inside lo hi (expr_phrases (value_of t.meaning))
 value_laid {k} {s} {lo} {hi} {t} e simple h = value_in k s e lo hi t.shape t.meaning simple h.meaning
 
 test_in : (k : Place) (s : Scene) (e : SceneFits k s) (lo hi shape : ℕ) (m : Meaning) → is_structured s shape ≡ false
-    → MeaningFits k s lo hi shape m → Laid k s.inside lo hi (test_phrases (test_of m))
+    → MeaningFits k s lo hi shape m → PhrasesFit k s.inside lo hi (test_phrases (test_of m))
 unfolding expr_phrases
 test_in k s e lo hi shape (a_place d) simple h =
     laid_cons (TestPhrase (ir.Value (ir.Load d))) tt (value_in k s e lo hi shape (a_place d) simple h)
@@ -167,7 +167,7 @@ test_in k s e lo hi shape (plain x) simple h = laid_cons (TestPhrase (ir.Value x
 test_in k s e lo hi shape (a_test t) simple h = h.0
 
 pub test_laid : {k : Place} {s : Scene} {lo hi : ℕ} {t : Typing} → SceneFits k s → is_structured s t.shape ≡ false → TypingFits k s lo hi t
-    → Laid k s.inside lo hi (test_phrases (test_of t.meaning))
+    → PhrasesFit k s.inside lo hi (test_phrases (test_of t.meaning))
 test_laid {k} {s} {lo} {hi} {t} e simple h = test_in k s e lo hi t.shape t.meaning simple h.meaning
 
 -- in parentheses
@@ -197,10 +197,10 @@ pub record LocatedFits (k : Place) (s : Scene) (lo hi : ℕ) (l : Location) : Ty
   pub root : RootFits k l.root l.cells
   pub parts : ArePartsOf l.sels l.cells
   pub left : cells_after l.sels l.cells ≡ cells s l.shape
-  pub laid : Laid k s.inside lo hi (sels_phrases l.sels)
+  pub laid : PhrasesFit k s.inside lo hi (sels_phrases l.sels)
 
 pub located_laid : {k : Place} {s : Scene} {lo hi : ℕ} {l : Location} → LocatedFits k s lo hi l
-    → Laid k s.inside lo hi (desig_phrases (desig_of l))
+    → PhrasesFit k s.inside lo hi (desig_phrases (desig_of l))
 unfolding desig_phrases
 located_laid {k} {s} {lo} {hi} {l} h = laid_cons (DesigPhrase (desig_of l)) (h.root, h.parts) h.laid
 
@@ -220,11 +220,11 @@ phrases_with (ir.more_sels y rest) x = ap (λ xs. sel_phrases y ++ xs) (phrases_
 
 -- one selector more
 pub selected : {k : Place} {s : Scene} {lo mid hi : ℕ} (l : Location) (shape : ℕ) (x : ir.Sel) → LocatedFits k s lo mid l
-    → IsPart x (cells s l.shape) → sel_cells x ≡ cells s shape → Laid k s.inside mid hi (sel_phrases x)
+    → IsPart x (cells s l.shape) → sel_cells x ≡ cells s shape → PhrasesFit k s.inside mid hi (sel_phrases x)
     → LocatedFits k s lo hi (record { shape = shape; root = l.root; cells = l.cells; sels = with_sel l.sels x })
 selected {k} {s} {lo} {mid} {hi} l shape x h part same laid = record {
   root = h.root;
   parts = parts_with l.sels x l.cells h.parts (subst (IsPart x) (sym h.left) part);
   left = after_with l.sels x l.cells ∙ same;
-  laid = subst (λ xs. Laid k s.inside lo hi xs) (sym (phrases_with l.sels x)) (laid_join h.laid (laid_one laid));
+  laid = subst (λ xs. PhrasesFit k s.inside lo hi xs) (sym (phrases_with l.sels x)) (laid_join h.laid (laid_one laid));
 }

@@ -25,7 +25,7 @@ use Rattle.alma_rules.specs.StmtRules.{assign_rules, unlike_sides, loop_name_rul
 use Rattle.alma_rules.specs.StmtRules.{case_rules, other_label, ends_with, is_above, low_above_high, label_twice, label_rules, return_rules}
 use Rattle.alma_rules.specs.StmtRules.{other_result, other_form, read_rules, unreadable, write_rules, unwritable}
 use Rattle.alma_rules.specs.Nodes.{constant_in, loop_of, cons_span, arm_of, joined_cases, text_rules, if_of, arms_of, with_line, item_of}
-use Rattle.alma_resolved.specs.Fits.{Place, own, LoopFits, Laid}
+use Rattle.alma_resolved.specs.Fits.{Place, own, LoopFits, PhrasesFit}
 use Rattle.alma_resolved.proofs.Fits.{laid_nil, laid_cons, laid_join, laid_wide, laid_one, laid_outside, laid_stays, laid_leaves, When}
 use Rattle.alma_resolved.proofs.Fits.{when_is, when_some, when_none, when_all, when_map, when_then, when_both, when_node, when_unless}
 use Rattle.alma_resolved.proofs.Fits.{when_unless_none}
@@ -43,16 +43,16 @@ append_is ir.no_stmts b = refl
 append_is (ir.more_stmts line x rest) b = ap (λ xs. stmt_phrases x ++ xs) (append_is rest b)
     ∙ sym (append_assoc (stmt_phrases x) (stmts_phrases rest) (stmts_phrases b))
 
-pub joined_fit : {k : Place} {i : Bool} {lo mid hi : ℕ} (a b : ir.Stmts) → Laid k i lo mid (stmts_phrases a)
-    → Laid k i mid hi (stmts_phrases b) → Laid k i lo hi (stmts_phrases (append_stmts a b))
-joined_fit {k} {i} {lo} {mid} {hi} a b p q = subst (λ xs. Laid k i lo hi xs) (sym (append_is a b)) (laid_join p q)
+pub joined_fit : {k : Place} {i : Bool} {lo mid hi : ℕ} (a b : ir.Stmts) → PhrasesFit k i lo mid (stmts_phrases a)
+    → PhrasesFit k i mid hi (stmts_phrases b) → PhrasesFit k i lo hi (stmts_phrases (append_stmts a b))
+joined_fit {k} {i} {lo} {mid} {hi} a b p q = subst (λ xs. PhrasesFit k i lo hi xs) (sym (append_is a b)) (laid_join p q)
 
-pub one_fits : {k : Place} {i : Bool} {lo hi : ℕ} (x : ir.Stmt) → Laid k i lo hi (stmt_phrases x)
-    → Laid k i lo hi (stmts_phrases (one_stmt x))
+pub one_fits : {k : Place} {i : Bool} {lo hi : ℕ} (x : ir.Stmt) → PhrasesFit k i lo hi (stmt_phrases x)
+    → PhrasesFit k i lo hi (stmts_phrases (one_stmt x))
 unfolding stmts_phrases
 one_fits x p = laid_one p
 
-pub no_stmts_fit : (k : Place) (i : Bool) (n : ℕ) → Laid k i n n (stmts_phrases ir.no_stmts)
+pub no_stmts_fit : (k : Place) (i : Bool) (n : ℕ) → PhrasesFit k i n n (stmts_phrases ir.no_stmts)
 unfolding stmts_phrases
 no_stmts_fit k i n = laid_nil k i n n (omega arith)
 
@@ -60,12 +60,12 @@ no_stmts_fit k i n = laid_nil k i n n (omega arith)
 
 assigned_fits : {k : Place} {s : Scene} (e : SceneFits k s) {lo mid hi : ℕ} (l : Location) (shape : ℕ) → base s l.shape ≡ base s shape
     → LocatedFits k s lo mid l → (m : Meaning) → MeaningFits k s mid hi shape m
-    → Laid k s.inside lo hi (stmt_phrases (assigned_to s l m))
+    → PhrasesFit k s.inside lo hi (stmt_phrases (assigned_to s l m))
 unfolding stmts_phrases
 assigned_fits {k} {s} e {lo} {mid} {hi} l shape same p (a_place d) h = by (is_structured s l.shape) refl
   where
     by : (c : Bool) → is_structured s l.shape ≡ c
-        → Laid k s.inside lo hi (stmt_phrases
+        → PhrasesFit k s.inside lo hi (stmt_phrases
         (if c then ir.CopyCells (desig_of l) d else ir.Assign (desig_of l) (ir.Load d) (range s l.shape)))
     by true i = laid_cons (StmtPhrase (ir.CopyCells (desig_of l) d)) (p.left ∙ (e.table.same l.shape shape same ∙ sym h.1))
         (laid_join (located_laid p) h.0)
@@ -85,9 +85,9 @@ assigned_fits {k} {s} e {lo} {mid} {hi} l shape same p (a_test x) h =
 
 pub assign_fits : {k : Place} {s : Scene} (e : SceneFits k s) {lo mid hi : ℕ} (v : Option (Location × Typing))
     → When v (λ p. LocatedFits k s lo mid p.0 × TypingFits k s mid hi p.1)
-    → When (option_map (assignment_stmts s) (unless (assign_rules s v) v)) (λ x. Laid k s.inside lo hi (stmts_phrases x))
+    → When (option_map (assignment_stmts s) (unless (assign_rules s v) v)) (λ x. PhrasesFit k s.inside lo hi (stmts_phrases x))
 assign_fits {k} {s} e {lo} {mid} {hi} v h =
-    when_map {P = λ p. Laid k s.inside lo hi (stmt_phrases (assigned_to s p.0 p.1.meaning))} (assignment_stmts s)
+    when_map {P = λ p. PhrasesFit k s.inside lo hi (stmt_phrases (assigned_to s p.0 p.1.meaning))} (assignment_stmts s)
     (when_node (assign_rules s) v h (λ p g q. assigned_fits e p.0 p.1.shape
     (same_number (base s p.0.shape) (base s p.1.shape) (no_fault_alone (unlike_sides s p) fault.TypeMismatch q)) g.0 p.1.meaning
     g.1.meaning))
@@ -99,9 +99,9 @@ boolean_simple {k} {s} e t q = base_simple e t.shape 2 (omega arith)
     (not_false (has_boolean s t.shape) (no_fault_alone (not_test s t) fault.NotTest q))
 
 pub condition_fits : {k : Place} {s : Scene} (e : SceneFits k s) {lo hi : ℕ} (v : Option Typing) → When v (TypingFits k s lo hi)
-    → When (option_map (λ t. test_of t.meaning) (unless (test_rules s v) v)) (λ t. Laid k s.inside lo hi (test_phrases t))
+    → When (option_map (λ t. test_of t.meaning) (unless (test_rules s v) v)) (λ t. PhrasesFit k s.inside lo hi (test_phrases t))
 condition_fits {k} {s} e {lo} {hi} v h =
-    when_map {P = λ t. Laid k s.inside lo hi (test_phrases (test_of t.meaning))} (λ t. test_of t.meaning)
+    when_map {P = λ t. PhrasesFit k s.inside lo hi (test_phrases (test_of t.meaning))} (λ t. test_of t.meaning)
     (when_node (test_rules s) v h (λ t g q. test_laid e (boolean_simple e t q) g)) (λ t g. g)
 
 -- ---- loops
@@ -151,11 +151,11 @@ step_fits {k} {s} {lo} {hi} v h =
 
 pub record LoopIs (k : Place) (s : Scene) (lo hi : ℕ) (l : ir.Loop) : Type 0 where
   pub loop : LoopFits lo hi l
-  pub laid : Laid k s.inside lo hi (loop_phrases l)
+  pub laid : PhrasesFit k s.inside lo hi (loop_phrases l)
 
 loop_made : {k : Place} {s : Scene} (e : SceneFits k s) (n m1 m2 m3 m4 : ℕ) (l : Location) (a b : Typing) (z : ℤ) (x : ir.Stmts)
     → LocatedFits k s (n + 2) (n + 2) l → TypingFits k s (n + 2) m1 a → TypingFits k s m1 m2 b
-    → (z ≡ pos 0 → ⊥) × (m2 ≤ m3) → Laid k s.inside m3 m4 (stmts_phrases x) → bad_loop s (Some a) (Some b) l ≡ false
+    → (z ≡ pos 0 → ⊥) × (m2 ≤ m3) → PhrasesFit k s.inside m3 m4 (stmts_phrases x) → bad_loop s (Some a) (Some b) l ≡ false
     → LoopIs k s n m4 (loop_of s n (l, (a, (b, (z, x)))))
 unfolding stmts_phrases
 loop_made {k} {s} e n m1 m2 m3 m4 l a b z x hl ha hb hz hx q =
@@ -182,7 +182,7 @@ loop_made {k} {s} e n m1 m2 m3 m4 l a b z x hl ha hb hz hx q =
 pub loop_fits : {k : Place} {s : Scene} (e : SceneFits k s) (n m1 m2 m3 m4 : ℕ) (va : Option Location) (vb vc : Option Typing)
     (vd : Option ℤ) (vx : Option ir.Stmts) → When va (LocatedFits k s (n + 2) (n + 2))
     → When vb (TypingFits k s (n + 2) m1) → When vc (TypingFits k s m1 m2) → When vd (λ z. (z ≡ pos 0 → ⊥) × (m2 ≤ m3))
-    → When vx (λ x. Laid k s.inside m3 m4 (stmts_phrases x))
+    → When vx (λ x. PhrasesFit k s.inside m3 m4 (stmts_phrases x))
     → When (option_map (loop_of s n) (unless (loop_rules s va vb vc (both_of va (both_of vb (both_of vc (both_of vd vx)))))
     (both_of va (both_of vb (both_of vc (both_of vd vx)))))) (LoopIs k s n m4)
 loop_fits {k} {s} e n m1 m2 m3 m4 None vb vc vd vx ha hb hc hd hx =
@@ -208,92 +208,95 @@ loop_fits {k} {s} e n m1 m2 m3 m4 (Some l) (Some a) (Some b) (Some z) (Some x) h
     (no_fault_alone (bad_loop s (Some a) (Some b) l) fault.TypeMismatch q)))
     (λ p g. g)
 
-pub for_fits : {k : Place} {s : Scene} {lo hi : ℕ} (l : ir.Loop) → LoopIs k s lo hi l → Laid k s.inside lo hi (stmt_phrases (ir.ForTo l))
+pub for_fits : {k : Place} {s : Scene} {lo hi : ℕ} (l : ir.Loop) → LoopIs k s lo hi l
+    → PhrasesFit k s.inside lo hi (stmt_phrases (ir.ForTo l))
 unfolding stmts_phrases
 for_fits l h = laid_cons (StmtPhrase (ir.ForTo l)) h.loop h.laid
 
-pub some_fits : {k : Place} {s : Scene} {lo hi : ℕ} (l : ir.Loop) → LoopIs k s lo hi l → Laid k s.inside lo hi (stmt_phrases (ir.SomeOf l))
+pub some_fits : {k : Place} {s : Scene} {lo hi : ℕ} (l : ir.Loop) → LoopIs k s lo hi l
+    → PhrasesFit k s.inside lo hi (stmt_phrases (ir.SomeOf l))
 unfolding stmts_phrases
 some_fits l h = laid_cons (StmtPhrase (ir.SomeOf l)) h.loop h.laid
 
 -- ---- statements with bodies
 
-pub test_stmt : {k : Place} {i : Bool} {lo hi : ℕ} (t : ir.Test) → Laid k i lo hi (test_phrases t)
-    → Laid k i lo hi (stmt_phrases (ir.TestStmt t))
+pub test_stmt : {k : Place} {i : Bool} {lo hi : ℕ} (t : ir.Test) → PhrasesFit k i lo hi (test_phrases t)
+    → PhrasesFit k i lo hi (stmt_phrases (ir.TestStmt t))
 unfolding stmts_phrases
 test_stmt t h = laid_cons (StmtPhrase (ir.TestStmt t)) tt h
 
 pub if_fits : {k : Place} {i : Bool} {lo m1 m2 m3 hi : ℕ} (p : ir.Test × (ir.Stmts × (ir.Arms × ir.Stmts)))
-    → Laid k i lo m1 (test_phrases p.0) → Laid k i m1 m2 (stmts_phrases p.1.0) → Laid k i m2 m3 (arms_phrases p.1.1.0)
-    → Laid k i m3 hi (stmts_phrases p.1.1.1) → Laid k i lo hi (stmt_phrases (if_of p))
+    → PhrasesFit k i lo m1 (test_phrases p.0) → PhrasesFit k i m1 m2 (stmts_phrases p.1.0) → PhrasesFit k i m2 m3 (arms_phrases p.1.1.0)
+    → PhrasesFit k i m3 hi (stmts_phrases p.1.1.1) → PhrasesFit k i lo hi (stmt_phrases (if_of p))
 unfolding stmts_phrases
 if_fits p a b c d = laid_cons (StmtPhrase (if_of p)) tt (laid_join (laid_join (laid_join a b) c) d)
 
-pub arms_fit : {k : Place} {i : Bool} {lo m1 m2 hi : ℕ} (p : ir.Test × (ir.Stmts × ir.Arms)) → Laid k i lo m1 (test_phrases p.0)
-    → Laid k i m1 m2 (stmts_phrases p.1.0) → Laid k i m2 hi (arms_phrases p.1.1) → Laid k i lo hi (arms_phrases (arms_of p))
+pub arms_fit : {k : Place} {i : Bool} {lo m1 m2 hi : ℕ} (p : ir.Test × (ir.Stmts × ir.Arms)) → PhrasesFit k i lo m1 (test_phrases p.0)
+    → PhrasesFit k i m1 m2 (stmts_phrases p.1.0) → PhrasesFit k i m2 hi (arms_phrases p.1.1)
+    → PhrasesFit k i lo hi (arms_phrases (arms_of p))
 unfolding stmts_phrases
 arms_fit p a b c = laid_join (laid_join a b) c
 
-pub while_fits : {k : Place} {i : Bool} {lo mid hi : ℕ} (t : ir.Test) (x : ir.Stmts) → Laid k i lo mid (test_phrases t)
-    → Laid k i mid hi (stmts_phrases x) → Laid k i lo hi (stmt_phrases (ir.While t x))
+pub while_fits : {k : Place} {i : Bool} {lo mid hi : ℕ} (t : ir.Test) (x : ir.Stmts) → PhrasesFit k i lo mid (test_phrases t)
+    → PhrasesFit k i mid hi (stmts_phrases x) → PhrasesFit k i lo hi (stmt_phrases (ir.While t x))
 unfolding stmts_phrases
 while_fits t x a b = laid_cons (StmtPhrase (ir.While t x)) tt (laid_join a b)
 
-pub repeat_fits : {k : Place} {i : Bool} {lo mid hi : ℕ} (x : ir.Stmts) (t : ir.Test) → Laid k i lo mid (stmts_phrases x)
-    → Laid k i mid hi (test_phrases t) → Laid k i lo hi (stmt_phrases (ir.Repeat x t))
+pub repeat_fits : {k : Place} {i : Bool} {lo mid hi : ℕ} (x : ir.Stmts) (t : ir.Test) → PhrasesFit k i lo mid (stmts_phrases x)
+    → PhrasesFit k i mid hi (test_phrases t) → PhrasesFit k i lo hi (stmt_phrases (ir.Repeat x t))
 unfolding stmts_phrases
 repeat_fits x t a b = laid_cons (StmtPhrase (ir.Repeat x t)) tt (laid_join a b)
 
-pub either_fits : {k : Place} {i : Bool} {lo mid hi : ℕ} (x : ir.Stmts) (rest : ir.Branches) → Laid k i lo mid (stmts_phrases x)
-    → Laid k i mid hi (branches_phrases rest) → Laid k i lo hi (stmt_phrases (ir.Either (ir.more_branches x rest)))
+pub either_fits : {k : Place} {i : Bool} {lo mid hi : ℕ} (x : ir.Stmts) (rest : ir.Branches) → PhrasesFit k i lo mid (stmts_phrases x)
+    → PhrasesFit k i mid hi (branches_phrases rest) → PhrasesFit k i lo hi (stmt_phrases (ir.Either (ir.more_branches x rest)))
 unfolding stmts_phrases
 either_fits x rest a b = laid_cons (StmtPhrase (ir.Either (ir.more_branches x rest))) tt (laid_join a b)
 
-pub branches_fit : {k : Place} {i : Bool} {lo mid hi : ℕ} (x : ir.Stmts) (rest : ir.Branches) → Laid k i lo mid (stmts_phrases x)
-    → Laid k i mid hi (branches_phrases rest) → Laid k i lo hi (branches_phrases (ir.more_branches x rest))
+pub branches_fit : {k : Place} {i : Bool} {lo mid hi : ℕ} (x : ir.Stmts) (rest : ir.Branches) → PhrasesFit k i lo mid (stmts_phrases x)
+    → PhrasesFit k i mid hi (branches_phrases rest) → PhrasesFit k i lo hi (branches_phrases (ir.more_branches x rest))
 unfolding stmts_phrases
 branches_fit x rest a b = laid_join a b
 
-pub forall_fits : {k : Place} {lo mid hi : ℕ} (i : Bool) (x y : ir.Stmts) → Laid k true lo mid (stmts_phrases x)
-    → Laid k true mid hi (stmts_phrases y) → Laid k i lo hi (stmt_phrases (ir.Forall x y))
+pub forall_fits : {k : Place} {lo mid hi : ℕ} (i : Bool) (x y : ir.Stmts) → PhrasesFit k true lo mid (stmts_phrases x)
+    → PhrasesFit k true mid hi (stmts_phrases y) → PhrasesFit k i lo hi (stmt_phrases (ir.Forall x y))
 unfolding stmts_phrases
 forall_fits i x y a b = laid_cons (StmtPhrase (ir.Forall x y)) (laid_stays a, laid_stays b) (laid_outside i (laid_join a b))
 
-pub commit_fits : {k : Place} {lo hi : ℕ} (i : Bool) (x : ir.Stmts) → Laid k true lo hi (stmts_phrases x)
-    → Laid k i lo hi (stmt_phrases (ir.Commit x))
+pub commit_fits : {k : Place} {lo hi : ℕ} (i : Bool) (x : ir.Stmts) → PhrasesFit k true lo hi (stmts_phrases x)
+    → PhrasesFit k i lo hi (stmt_phrases (ir.Commit x))
 unfolding stmts_phrases
 commit_fits i x a = laid_cons (StmtPhrase (ir.Commit x)) (laid_stays a) (laid_outside i a)
 
-pub sequence_fits : {k : Place} {lo hi : ℕ} (i : Bool) (x : ir.Stmts) → Laid k true lo hi (stmts_phrases x)
-    → Laid k i lo hi (test_phrases (ir.Seq x))
+pub sequence_fits : {k : Place} {lo hi : ℕ} (i : Bool) (x : ir.Stmts) → PhrasesFit k true lo hi (stmts_phrases x)
+    → PhrasesFit k i lo hi (test_phrases (ir.Seq x))
 unfolding stmts_phrases
 sequence_fits i x a = laid_cons (TestPhrase (ir.Seq x)) (laid_stays a) (laid_outside i a)
 
-pub no_arms_laid : (k : Place) (i : Bool) (n : ℕ) → Laid k i n n (arms_phrases ir.no_arms)
+pub no_arms_laid : (k : Place) (i : Bool) (n : ℕ) → PhrasesFit k i n n (arms_phrases ir.no_arms)
 unfolding stmts_phrases
 no_arms_laid k i n = laid_nil k i n n (omega arith)
 
-pub no_branches_laid : (k : Place) (i : Bool) (n : ℕ) → Laid k i n n (branches_phrases ir.no_branches)
+pub no_branches_laid : (k : Place) (i : Bool) (n : ℕ) → PhrasesFit k i n n (branches_phrases ir.no_branches)
 unfolding stmts_phrases
 no_branches_laid k i n = laid_nil k i n n (omega arith)
 
-pub no_else_laid : (k : Place) (i : Bool) (n : ℕ) → Laid k i n n (else_phrases ir.no_else)
+pub no_else_laid : (k : Place) (i : Bool) (n : ℕ) → PhrasesFit k i n n (else_phrases ir.no_else)
 unfolding stmts_phrases
 no_else_laid k i n = laid_nil k i n n (omega arith)
 
-pub else_laid : {k : Place} {i : Bool} {lo hi : ℕ} (x : ir.Stmts) → Laid k i lo hi (stmts_phrases x)
-    → Laid k i lo hi (else_phrases (ir.else_part x))
+pub else_laid : {k : Place} {i : Bool} {lo hi : ℕ} (x : ir.Stmts) → PhrasesFit k i lo hi (stmts_phrases x)
+    → PhrasesFit k i lo hi (else_phrases (ir.else_part x))
 unfolding stmts_phrases
 else_laid x h = h
 
-pub line_fits : {k : Place} {i : Bool} {lo hi : ℕ} (x : ir.Stmts) → Laid k i lo hi (stmts_phrases x)
-    → Laid k i lo hi (stmts_phrases (with_line x))
+pub line_fits : {k : Place} {i : Bool} {lo hi : ℕ} (x : ir.Stmts) → PhrasesFit k i lo hi (stmts_phrases x)
+    → PhrasesFit k i lo hi (stmts_phrases (with_line x))
 unfolding stmts_phrases
 line_fits {k} {i} {lo} {hi} x h = joined_fit x (one_stmt ir.WriteLine) h
     (laid_one (laid_cons (StmtPhrase ir.WriteLine) tt (laid_nil k i hi hi (omega arith))))
 
-pub one_when : {k : Place} {i : Bool} {lo hi : ℕ} {v : Option ir.Stmt} → When v (λ x. Laid k i lo hi (stmt_phrases x))
-    → When (option_map one_stmt v) (λ x. Laid k i lo hi (stmts_phrases x))
+pub one_when : {k : Place} {i : Bool} {lo hi : ℕ} {v : Option ir.Stmt} → When v (λ x. PhrasesFit k i lo hi (stmt_phrases x))
+    → When (option_map one_stmt v) (λ x. PhrasesFit k i lo hi (stmts_phrases x))
 one_when {k} {i} {lo} {hi} {v} h = when_map one_stmt h (λ x g. one_fits x g)
 
 -- ---- CASE
@@ -305,7 +308,7 @@ CaseIs s (Some c) = is_structured s c.shape ≡ false
 
 -- the labels of arms, for a value that is simple
 pub record ArmsFit (k : Place) (s : Scene) (case : Option Typing) (lo hi : ℕ) (arms : ir.CaseArms) : Type 0 where
-  pub laid : Laid k s.inside lo hi (cases_phrases arms)
+  pub laid : PhrasesFit k s.inside lo hi (cases_phrases arms)
   pub labels : CaseIs s case → AllByRecursion IsOrdered (labels_of arms)
 
 pub record SpansFit (s : Scene) (case : Option Typing) (lo hi : ℕ) (spans : List Span) : Type 0 where
@@ -333,7 +336,7 @@ labels_are (ir.more_cases labels body rest) b h g =
 pub arms_join : {k : Place} {s : Scene} {case : Option Typing} {lo mid hi : ℕ} (a b : ir.CaseArms) → ArmsFit k s case lo mid a
     → ArmsFit k s case mid hi b → ArmsFit k s case lo hi (append_cases a b)
 arms_join {k} {s} {case} {lo} {mid} {hi} a b p q = record {
-  laid = subst (λ xs. Laid k s.inside lo hi xs) (sym (cases_are a b)) (laid_join p.laid q.laid);
+  laid = subst (λ xs. PhrasesFit k s.inside lo hi xs) (sym (cases_are a b)) (laid_join p.laid q.laid);
   labels = λ c. labels_are a b (p.labels c) (q.labels c);
 }
 
@@ -342,7 +345,7 @@ unfolding stmts_phrases
 no_arms_fit k s case n = record { laid = laid_nil k s.inside n n (omega arith); labels = λ c. tt }
 
 pub arm_fits : {k : Place} {s : Scene} {case : Option Typing} {lo mid hi : ℕ} (p : List Span × ir.Stmts) → SpansFit s case lo mid p.0
-    → Laid k s.inside mid hi (stmts_phrases p.1) → ArmsFit k s case lo hi (arm_of p)
+    → PhrasesFit k s.inside mid hi (stmts_phrases p.1) → ArmsFit k s case lo hi (arm_of p)
 unfolding stmts_phrases
 arm_fits {k} {s} {case} {lo} {mid} {hi} p g h = record {
   laid = laid_wide lo hi g.le (omega arith) (laid_one h);
@@ -412,19 +415,19 @@ case_of p = ir.Case (value_of p.0.meaning) p.1.0 p.1.1
 
 pub case_fits : {k : Place} {s : Scene} (e : SceneFits k s) {lo mid m2 hi : ℕ} (v : Option Typing) (w : Option (ir.CaseArms × ir.Else))
     → When v (TypingFits k s lo mid)
-    → When w (λ p. ArmsFit k s v mid m2 p.0 × Laid k s.inside m2 hi (else_phrases p.1))
-    → When (option_map case_of (unless (case_rules s v (both_of v w)) (both_of v w))) (λ x. Laid k s.inside lo hi (stmt_phrases x))
+    → When w (λ p. ArmsFit k s v mid m2 p.0 × PhrasesFit k s.inside m2 hi (else_phrases p.1))
+    → When (option_map case_of (unless (case_rules s v (both_of v w)) (both_of v w))) (λ x. PhrasesFit k s.inside lo hi (stmt_phrases x))
 unfolding stmts_phrases
 case_fits {k} {s} e {lo} {mid} {m2} {hi} None w h g =
     when_map {P = λ p. ⊥} case_of (when_unless_none (case_rules {A = Typing × (ir.CaseArms × ir.Else)} s None None)) (λ p b. absurd b)
 case_fits {k} {s} e {lo} {mid} {m2} {hi} (Some t) None h g =
     when_map {P = λ p. ⊥} case_of (when_unless_none (case_rules {A = Typing × (ir.CaseArms × ir.Else)} s (Some t) None)) (λ p b. absurd b)
 case_fits {k} {s} e {lo} {mid} {m2} {hi} (Some t) (Some p) h g =
-    when_map {P = λ x. Laid k s.inside lo hi (stmt_phrases (case_of x))} case_of
+    when_map {P = λ x. PhrasesFit k s.inside lo hi (stmt_phrases (case_of x))} case_of
     (when_unless (case_rules {A = Typing × (ir.CaseArms × ir.Else)} s (Some t) (Some (t, p))) (t, p)
     (λ q. made (no_fault_alone (structured s t) fault.TypeMismatch q))) (λ x y. y)
   where
-    made : structured s t ≡ false → Laid k s.inside lo hi (stmt_phrases (case_of (t, p)))
+    made : structured s t ≡ false → PhrasesFit k s.inside lo hi (stmt_phrases (case_of (t, p)))
     made simple = laid_cons (StmtPhrase (case_of (t, p))) (g.gives.0.labels simple)
         (laid_join (laid_join (value_laid e simple h.gives) g.gives.0.laid) g.gives.1)
 
@@ -448,15 +451,15 @@ abbrev return_of : Typing → ir.Stmt
 return_of t = ir.Return (ir.some_result (value_of t.meaning))
 
 pub return_fits : {k : Place} {s : Scene} (e : SceneFits k s) {lo hi : ℕ} (v : Option Typing) → When v (TypingFits k s lo hi)
-    → When (option_map return_of (unless (return_rules s true v) v)) (λ x. Laid k s.inside lo hi (stmt_phrases x))
+    → When (option_map return_of (unless (return_rules s true v) v)) (λ x. PhrasesFit k s.inside lo hi (stmt_phrases x))
 unfolding stmts_phrases
 return_fits {k} {s} e {lo} {hi} v h =
-    when_map {P = λ t. Laid k s.inside lo hi (stmt_phrases (return_of t))} return_of
+    when_map {P = λ t. PhrasesFit k s.inside lo hi (stmt_phrases (return_of t))} return_of
     (when_node (return_rules s true) v h (λ t g q. made t g q)) (λ t g. g)
   where
     made : (t : Typing) → TypingFits k s lo hi t
         → when (other_result s s.returns t) fault.TypeMismatch ++ when (other_form true s.returns) fault.ReturnForm
-        ++ when s.inside fault.JumpOut ≡ [] → Laid k s.inside lo hi (stmt_phrases (return_of t))
+        ++ when s.inside fault.JumpOut ≡ [] → PhrasesFit k s.inside lo hi (stmt_phrases (return_of t))
     made t g q =
         let l : when (other_result s s.returns t) fault.TypeMismatch ++ when (other_form true s.returns) fault.ReturnForm ≡ [] =
         no_faults_left _ (when s.inside fault.JumpOut) q in
@@ -472,13 +475,13 @@ return_fits {k} {s} e {lo} {hi} v h =
 
 pub bare_return_fits : {k : Place} {s : Scene} (e : SceneFits k s) (n : ℕ) (t : Typing)
     → When (option_map (λ t. ir.Return ir.no_result) (unless (return_rules s false None) (Some t)))
-    (λ x. Laid k s.inside n n (stmt_phrases x))
+    (λ x. PhrasesFit k s.inside n n (stmt_phrases x))
 unfolding stmts_phrases
-bare_return_fits {k} {s} e n t = when_map {P = λ t. Laid k s.inside n n (stmt_phrases (ir.Return ir.no_result))}
+bare_return_fits {k} {s} e n t = when_map {P = λ t. PhrasesFit k s.inside n n (stmt_phrases (ir.Return ir.no_result))}
     (λ t. ir.Return ir.no_result) (when_unless (return_rules s false None) t (λ q. made q)) (λ t g. g)
   where
     made : when (other_form false s.returns) fault.ReturnForm ++ when s.inside fault.JumpOut ≡ []
-        → Laid k s.inside n n (stmt_phrases (ir.Return ir.no_result))
+        → PhrasesFit k s.inside n n (stmt_phrases (ir.Return ir.no_result))
     made q =
         laid_cons (StmtPhrase (ir.Return ir.no_result)) (
           no_fault_alone s.inside fault.JumpOut (no_fault (other_form false s.returns) fault.ReturnForm _ q).1,
@@ -508,45 +511,46 @@ writable_simple {k} {s} e shape q = by (true_of_or (has_integer s shape || has_c
     by (inr h) = base_simple e shape 2 (omega arith) h
 
 pub read_fits : {k : Place} {s : Scene} (e : SceneFits k s) {lo hi : ℕ} (v : Option Location) → When v (LocatedFits k s lo hi)
-    → When (option_map (read_stmts s) (unless (read_rules s v) v)) (λ x. Laid k s.inside lo hi (stmts_phrases x))
+    → When (option_map (read_stmts s) (unless (read_rules s v) v)) (λ x. PhrasesFit k s.inside lo hi (stmts_phrases x))
 unfolding stmts_phrases
 read_fits {k} {s} e {lo} {hi} v h =
-    when_map {P = λ l. Laid k s.inside lo hi (stmts_phrases (read_stmts s l))} (read_stmts s)
+    when_map {P = λ l. PhrasesFit k s.inside lo hi (stmts_phrases (read_stmts s l))} (read_stmts s)
     (when_node (read_rules s) v h (λ l g q. made l g (readable_simple e l.shape (no_fault_alone (unreadable s l) fault.BadRead q))))
     (λ l g. g)
   where
     made : (l : Location) → LocatedFits k s lo hi l → is_structured s l.shape ≡ false
-        → Laid k s.inside lo hi (stmts_phrases (read_stmts s l))
+        → PhrasesFit k s.inside lo hi (stmts_phrases (read_stmts s l))
     made l g simple = laid_one (laid_cons (StmtPhrase (ir.Read (desig_of l) (read_as s l.shape) (range s l.shape)))
         (g.left ∙ e.table.simple l.shape simple, e.table.ordered l.shape) (located_laid g))
 
 pub write_fits : {k : Place} {s : Scene} (e : SceneFits k s) {lo hi : ℕ} (v : Option Typing) → When v (TypingFits k s lo hi)
-    → When (option_map (write_stmts s) (unless (write_rules s v) v)) (λ x. Laid k s.inside lo hi (stmts_phrases x))
+    → When (option_map (write_stmts s) (unless (write_rules s v) v)) (λ x. PhrasesFit k s.inside lo hi (stmts_phrases x))
 unfolding stmts_phrases
 write_fits {k} {s} e {lo} {hi} v h =
-    when_map {P = λ t. Laid k s.inside lo hi (stmts_phrases (write_stmts s t))} (write_stmts s)
+    when_map {P = λ t. PhrasesFit k s.inside lo hi (stmts_phrases (write_stmts s t))} (write_stmts s)
     (when_node (write_rules s) v h (λ t g q. made t g (writable_simple e t.shape (no_fault_alone (unwritable s t) fault.BadWrite q))))
     (λ t g. g)
   where
-    made : (t : Typing) → TypingFits k s lo hi t → is_structured s t.shape ≡ false → Laid k s.inside lo hi (stmts_phrases (write_stmts s t))
+    made : (t : Typing) → TypingFits k s lo hi t → is_structured s t.shape ≡ false
+        → PhrasesFit k s.inside lo hi (stmts_phrases (write_stmts s t))
     made t g simple = laid_one (laid_cons (StmtPhrase (ir.WriteExpr (value_of t.meaning) (write_as s t.shape))) tt (value_laid e simple g))
 
 pub text_fits : {k : Place} (s : Scene) (n : ℕ) (text : List ℕ)
     → When (unless (text_rules s (Some (one_stmt (ir.WriteText text)))) (Some (one_stmt (ir.WriteText text))))
-    (λ x. Laid k s.inside n n (stmts_phrases x))
+    (λ x. PhrasesFit k s.inside n n (stmts_phrases x))
 unfolding stmts_phrases
 text_fits {k} s n text = when_unless (text_rules s (Some (one_stmt (ir.WriteText text)))) (one_stmt (ir.WriteText text))
     (λ q. laid_one (laid_cons (StmtPhrase (ir.WriteText text)) tt (laid_nil k s.inside n n (omega arith))))
 
 pub item_fits : {k : Place} {s : Scene} (e : SceneFits k s) (n node : ℕ) (o : Option (ℕ × ℕ)) (j : Judgement Typing)
     → When j.value (TypingFits k s n j.next)
-    → When (item_of s n node o j).value (λ x. Laid k s.inside n (item_of s n node o j).next (stmts_phrases x))
+    → When (item_of s n node o j).value (λ x. PhrasesFit k s.inside n (item_of s n node o j).next (stmts_phrases x))
 item_fits {k} {s} e n node None j h = write_fits e j.value h
 item_fits {k} {s} e n node (Some l) j h = by (nat_eq (length (literal_at s l.1)) 1)
   where
     by : (b : Bool) → When (if_true b (λ _. with (write_stmts s) (at_node node (write_rules s) j))
         (λ _. at_node l.0 (text_rules s) (fine n (one_stmt (ir.WriteText (literal_at s l.1)))))).value
-        (λ x. Laid k s.inside n (if_true b (λ _. with (write_stmts s) (at_node node (write_rules s) j))
+        (λ x. PhrasesFit k s.inside n (if_true b (λ _. with (write_stmts s) (at_node node (write_rules s) j))
         (λ _. at_node l.0 (text_rules s) (fine n (one_stmt (ir.WriteText (literal_at s l.1)))))).next (stmts_phrases x))
     by true = write_fits e j.value h
     by false = text_fits s n (literal_at s l.1)

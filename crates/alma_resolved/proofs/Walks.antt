@@ -28,7 +28,7 @@ use Rattle.alma_rules.specs.Walk.{judge_label, judge_high, judge_labels, judge_c
 use Rattle.alma_rules.specs.Walk.{judge_items, judge_item_tail, judge_line_items, judge_expr, judge_compared, judge_simple, judge_terms}
 use Rattle.alma_rules.specs.Walk.{judge_term, judge_factors, judge_factor, judge_primary, judge_only, judge_value, judge_arguments}
 use Rattle.alma_rules.specs.Walk.{judge_argument_tail, judge_desig, judge_selectors, judge_selector, judge_indices, judge_index_tail}
-use Rattle.alma_resolved.specs.Fits.{Place, Laid}
+use Rattle.alma_resolved.specs.Fits.{Place, PhrasesFit}
 use Rattle.alma_resolved.proofs.Fits.{laid_nil, laid_cons, laid_join, When, when_is, when_some, when_all, when_pair, when_map, when_then}
 use Rattle.alma_resolved.proofs.Fits.{when_both, when_node, when_weaker}
 use Rattle.alma_resolved.specs.Scenes.{FormalFits, FormalsFit, SceneFits}
@@ -124,11 +124,11 @@ OnlyFits k s n (Some j) = When j.value (TypingFits k s n j.next)
 
 paren_fits : {k : Place} {s : Scene} (e : SceneFits k s) (n j : ℕ) (o : Option (Judgement Typing)) (b : Judgement ir.Stmts)
     → OnlyFits k s n o
-    → When b.value (λ x. Laid k true n b.next (stmts_phrases x))
+    → When b.value (λ x. PhrasesFit k true n b.next (stmts_phrases x))
     → When (or_sequence o (in_parens s j) (λ u. as_sequence s j b)).value
     (TypingFits k s n (or_sequence o (in_parens s j) (λ u. as_sequence s j b)).next)
 paren_fits {k} {s} e n j None b h g =
-    when_map {P = λ x. Laid k true n b.next (stmts_phrases x)} (λ body. boolean_typing (a_test (ir.Seq body)))
+    when_map {P = λ x. PhrasesFit k true n b.next (stmts_phrases x)} (λ body. boolean_typing (a_test (ir.Seq body)))
     (when_node (sequence_rules s) b.value g (λ x y q. y))
     (λ x y. record { meaning = (sequence_fits s.inside x y, e.table.firsts 2 (omega arith)) })
 paren_fits {k} {s} e n j (Some i) b h g =
@@ -146,7 +146,7 @@ no_arguments : {k : Place} (s : Scene) (n : ℕ) (fs : List FormalOf) → Argume
 unfolding expr_phrases
 no_arguments {k} s n [] = record { are = λ qs h c. by qs h }
   where
-    by : (qs : List Param) → FormalsFit s [] qs → Laid k s.inside n n (args_phrases ir.no_args) × ArgsFit qs ir.no_args
+    by : (qs : List Param) → FormalsFit s [] qs → PhrasesFit k s.inside n n (args_phrases ir.no_args) × ArgsFit qs ir.no_args
     by [] h = (laid_nil k s.inside n n (omega arith), tt)
     by (q ∷ qs) h = absurd h
 no_arguments {k} s n (f ∷ fs) = record { are = λ qs h c. absurd (cc) }
@@ -167,7 +167,8 @@ more_arguments : {k : Place} {s : Scene} {lo mid hi : ℕ} (count : ℕ) (f : Fo
 unfolding expr_phrases
 more_arguments {k} {s} {lo} {mid} {hi} count f fs p h g = record { are = by }
   where
-    by : (qs : List Param) → FormalsFit s (f ∷ fs) qs → 1 + count ≡ length (f ∷ fs) → Laid k s.inside lo hi (args_phrases (cons_arg p))
+    by : (qs : List Param) → FormalsFit s (f ∷ fs) qs → 1 + count ≡ length (f ∷ fs)
+        → PhrasesFit k s.inside lo hi (args_phrases (cons_arg p))
         × ArgsFit qs (cons_arg p)
     by [] x c = absurd x
     by (q ∷ qs) x c =
@@ -222,18 +223,18 @@ mutual
   unfolding judge_expr
 
   pub stmts_fit : {k : Place} {s : Scene} (e : SceneFits k s) (n : ℕ) (x : tree.Stmts)
-      → When (judge_stmts s n x).value (λ y. Laid k s.inside n (judge_stmts s n x).next (stmts_phrases y))
+      → When (judge_stmts s n x).value (λ y. PhrasesFit k s.inside n (judge_stmts s n x).next (stmts_phrases y))
   stmts_fit {k} {s} e n (tree.stmts j x rest) =
       when_map joined_stmts (when_both (stmt_fits e n x) (stmt_tail_fits e _ rest)) (λ p g. joined_fit p.0 p.1 g.0 g.1)
 
   stmt_tail_fits : {k : Place} {s : Scene} (e : SceneFits k s) (n : ℕ) (x : tree.StmtTail)
-      → When (judge_stmt_tail s n x).value (λ y. Laid k s.inside n (judge_stmt_tail s n x).next (stmts_phrases y))
+      → When (judge_stmt_tail s n x).value (λ y. PhrasesFit k s.inside n (judge_stmt_tail s n x).next (stmts_phrases y))
   stmt_tail_fits {k} {s} e n tree.no_stmt = when_some _ (no_stmts_fit k s.inside n)
   stmt_tail_fits {k} {s} e n (tree.more_stmt x rest) =
       when_map joined_stmts (when_both (stmt_fits e n x) (stmt_tail_fits e _ rest)) (λ p g. joined_fit p.0 p.1 g.0 g.1)
 
   stmt_fits : {k : Place} {s : Scene} (e : SceneFits k s) (n : ℕ) (x : tree.Stmt)
-      → When (judge_stmt s n x).value (λ y. Laid k s.inside n (judge_stmt s n x).next (stmts_phrases y))
+      → When (judge_stmt s n x).value (λ y. PhrasesFit k s.inside n (judge_stmt s n x).next (stmts_phrases y))
   stmt_fits {k} {s} e n (tree.nothing j) = when_some _ (no_stmts_fit k s.inside n)
   stmt_fits {k} {s} e n (tree.assign j d x) = assign_fits e _ (when_both (place_of n d (desig_fits e n as_variable d)) (expr_fits e _ x))
   stmt_fits {k} {s} e n (tree.value j x) = one_when (when_map ir.TestStmt (condition_fits e _ (expr_fits e n x)) (λ t g. test_stmt t g))
@@ -272,14 +273,14 @@ mutual
   stmt_fits {k} {s} e n (tree.writeln_stmt j items) = when_map with_line (line_items_fit e n items) (λ x g. line_fits x g)
 
   elsifs_fit : {k : Place} {s : Scene} (e : SceneFits k s) (n : ℕ) (x : tree.ElsifTail)
-      → When (judge_elsifs s n x).value (λ y. Laid k s.inside n (judge_elsifs s n x).next (arms_phrases y))
+      → When (judge_elsifs s n x).value (λ y. PhrasesFit k s.inside n (judge_elsifs s n x).next (arms_phrases y))
   elsifs_fit {k} {s} e n tree.no_elsif = when_some _ (no_arms_laid k s.inside n)
   elsifs_fit {k} {s} e n (tree.more_elsif x body rest) =
       when_map arms_of (when_both (condition_fits e _ (expr_fits e n x)) (when_both (stmts_fit e _ body) (elsifs_fit e _ rest)))
       (λ p g. arms_fit p g.0 g.1.0 g.1.1)
 
   else_fits : {k : Place} {s : Scene} (e : SceneFits k s) (n : ℕ) (x : tree.Else)
-      → When (judge_else s n x).value (λ y. Laid k s.inside n (judge_else s n x).next (stmts_phrases y))
+      → When (judge_else s n x).value (λ y. PhrasesFit k s.inside n (judge_else s n x).next (stmts_phrases y))
   else_fits {k} {s} e n tree.no_else = when_some _ (no_stmts_fit k s.inside n)
   else_fits {k} {s} e n (tree.else_stmts body) = stmts_fit e n body
 
@@ -317,43 +318,43 @@ mutual
   labels_are {k} {s} e n case earlier (tree.more_label x rest) = spans_when (label_is e n case earlier x) (labels_are e _ case _ rest)
 
   case_else_fits : {k : Place} {s : Scene} (e : SceneFits k s) (n : ℕ) (x : tree.Else)
-      → When (judge_case_else s n x).value (λ y. Laid k s.inside n (judge_case_else s n x).next (else_phrases y))
+      → When (judge_case_else s n x).value (λ y. PhrasesFit k s.inside n (judge_case_else s n x).next (else_phrases y))
   case_else_fits {k} {s} e n tree.no_else = when_some _ (no_else_laid k s.inside n)
   case_else_fits {k} {s} e n (tree.else_stmts body) = when_map ir.else_part (stmts_fit e n body) (λ x g. else_laid x g)
 
   orelses_fit : {k : Place} {s : Scene} (e : SceneFits k s) (n : ℕ) (x : tree.OrelseTail)
-      → When (judge_orelses s n x).value (λ y. Laid k s.inside n (judge_orelses s n x).next (branches_phrases y))
+      → When (judge_orelses s n x).value (λ y. PhrasesFit k s.inside n (judge_orelses s n x).next (branches_phrases y))
   orelses_fit {k} {s} e n tree.no_orelse = when_some _ (no_branches_laid k s.inside n)
   orelses_fit {k} {s} e n (tree.more_orelse body rest) =
       when_map (λ p. ir.more_branches p.0 p.1) (when_both (stmts_fit e n body) (orelses_fit e _ rest)) (λ p g. branches_fit p.0 p.1 g.0 g.1)
 
   returned_fits : {k : Place} {s : Scene} (e : SceneFits k s) (n j : ℕ) (x : tree.Returned)
-      → When (judge_returned s n j x).value (λ y. Laid k s.inside n (judge_returned s n j x).next (stmt_phrases y))
+      → When (judge_returned s n j x).value (λ y. PhrasesFit k s.inside n (judge_returned s n j x).next (stmt_phrases y))
   returned_fits {k} {s} e n j tree.no_value = bare_return_fits e n _
   returned_fits {k} {s} e n j (tree.returned x) = return_fits e _ (expr_fits e n x)
 
   reads_fit : {k : Place} {s : Scene} (e : SceneFits k s) (n : ℕ) (x : tree.DesigTail)
-      → When (judge_reads s n x).value (λ y. Laid k s.inside n (judge_reads s n x).next (stmts_phrases y))
+      → When (judge_reads s n x).value (λ y. PhrasesFit k s.inside n (judge_reads s n x).next (stmts_phrases y))
   reads_fit {k} {s} e n tree.no_desig = when_some _ (no_stmts_fit k s.inside n)
   reads_fit {k} {s} e n (tree.more_desig d rest) =
       when_map joined_stmts (when_both (read_fits e _ (place_of n d (desig_fits e n as_variable d))) (reads_fit e _ rest))
       (λ p g. joined_fit p.0 p.1 g.0 g.1)
 
   items_fit : {k : Place} {s : Scene} (e : SceneFits k s) (n : ℕ) (x : tree.Exprs)
-      → When (judge_items s n x).value (λ y. Laid k s.inside n (judge_items s n x).next (stmts_phrases y))
+      → When (judge_items s n x).value (λ y. PhrasesFit k s.inside n (judge_items s n x).next (stmts_phrases y))
   items_fit {k} {s} e n (tree.exprs x rest) =
       when_map joined_stmts (when_both (item_fits e n (tree.expr_node x) (item_literal x) (judge_expr s n x) (expr_fits e n x))
       (item_tail_fits e _ rest)) (λ p g. joined_fit p.0 p.1 g.0 g.1)
 
   item_tail_fits : {k : Place} {s : Scene} (e : SceneFits k s) (n : ℕ) (x : tree.ExprTail)
-      → When (judge_item_tail s n x).value (λ y. Laid k s.inside n (judge_item_tail s n x).next (stmts_phrases y))
+      → When (judge_item_tail s n x).value (λ y. PhrasesFit k s.inside n (judge_item_tail s n x).next (stmts_phrases y))
   item_tail_fits {k} {s} e n tree.no_expr = when_some _ (no_stmts_fit k s.inside n)
   item_tail_fits {k} {s} e n (tree.more_expr x rest) =
       when_map joined_stmts (when_both (item_fits e n (tree.expr_node x) (item_literal x) (judge_expr s n x) (expr_fits e n x))
       (item_tail_fits e _ rest)) (λ p g. joined_fit p.0 p.1 g.0 g.1)
 
   line_items_fit : {k : Place} {s : Scene} (e : SceneFits k s) (n : ℕ) (x : tree.Args)
-      → When (judge_line_items s n x).value (λ y. Laid k s.inside n (judge_line_items s n x).next (stmts_phrases y))
+      → When (judge_line_items s n x).value (λ y. PhrasesFit k s.inside n (judge_line_items s n x).next (stmts_phrases y))
   line_items_fit {k} {s} e n tree.no_args = when_some _ (no_stmts_fit k s.inside n)
   line_items_fit {k} {s} e n tree.empty_args = when_some _ (no_stmts_fit k s.inside n)
   line_items_fit {k} {s} e n (tree.args items) = items_fit e n items

@@ -86,6 +86,6 @@ Fits k i lo hi _ = Unit {0}
 -- ---- lists of phrases
 
 -- each phrase fits, and the hidden slots go from lo on up to hi
-pub record Laid (k : Place) (i : Bool) (lo hi : ℕ) (xs : List Phrase) : Type 0 where
+pub record PhrasesFit (k : Place) (i : Bool) (lo hi : ℕ) (xs : List Phrase) : Type 0 where
   pub le : lo ≤ hi
   pub all : AllByRecursion (Fits k i lo hi) xs

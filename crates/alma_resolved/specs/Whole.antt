@@ -11,7 +11,7 @@ use Rattle.alma_scan.specs.Tokens.{Lexeme, Tokens}
 use Rattle.alma_ir.specs.Tree.{Program, Routine, routine_at}
 use Rattle.alma_ir.specs.Phrases.{stmts_phrases}
 use Rattle.alma_ir.specs.Checked.{EachRoutine, param_slots, link_slots, HeadRangesOrdered}
-use Rattle.alma_resolved.specs.Fits.{Place, Laid}
+use Rattle.alma_resolved.specs.Fits.{Place, PhrasesFit}
 
 -- the place of a routine, where the frame of each ends
 abbrev pub place : Program → (ends : ℕ → ℕ) → ℕ → Place
@@ -22,7 +22,7 @@ pub record RoutineFits (p : Program) (ends : ℕ → ℕ) (q : ℕ) (x : Routine
   pub params : sum_by param_slots x.params ≤ ends q
   pub position : q ≡ 0 → 0 < ends q
   pub cells : x.declared ≤ cell_limit
-  pub body : Laid (place p ends q) false (ends q) x.slots (stmts_phrases x.body)
+  pub body : PhrasesFit (place p ends q) false (ends q) x.slots (stmts_phrases x.body)
   pub heads : HeadRangesOrdered x
 
 -- each routine of a program does so, and the variables of the module stand in the frame of routine 0

@@ -9,7 +9,7 @@ ghost use Rattle.alma_rules.specs.Numbered as tree;
 ghost use Rattle.alma_rules.specs.Scene.{Scene};
 ghost use Rattle.alma_rules.specs.Modules.{broken_rules, resolution};
 ghost use Rattle.alma_rules.specs.Walk.{judge_stmts};
-ghost use Rattle.alma_resolved.specs.Fits.{Place, Laid};
+ghost use Rattle.alma_resolved.specs.Fits.{Place, PhrasesFit};
 ghost use Rattle.alma_resolved.specs.Scenes.{SceneFits};
 ghost use Rattle.alma_resolved.specs.Keeps.{KeepsPhrase};
 ghost use Rattle.alma_resolved.specs.Stand.{BlockStands};
@@ -21,7 +21,7 @@ ghost use Rattle.alma_resolved.specs.Frames.{KeepsFrames};
 pub fn body_fits_its_place()
     ensures { (k : Place) (s : Scene) → SceneFits k s → (n : ℕ) (x : tree.Stmts) (y : Stmts)
         → (judge_stmts s n x).value ≡ Some y →
-        Laid k s.inside n (judge_stmts s n x).next (stmts_phrases y) }
+        PhrasesFit k s.inside n (judge_stmts s n x).next (stmts_phrases y) }
 {}
 
 /// Each phrase of such a body keeps the conditions on phrases of a checked program, where each

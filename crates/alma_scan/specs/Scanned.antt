@@ -14,7 +14,7 @@ lexeme token = record { kind = token.kind; text = token.text.now; start = token.
 abbrev pub lexemes : List Token → List Lexeme
 lexemes tokens = map lexeme tokens
 
--- the fault of an error is that of the source
-abbrev pub IsStopOf : List ℕ → ScanError → Type 0
-IsStopOf source (Lex fault at) = FaultAt source fault at
-IsStopOf source Memory = Unit {0}
+-- the fault of an error is that of the source; want of memory is free
+abbrev pub IsScanErrorOf : List ℕ → ScanError → Type 0
+IsScanErrorOf source (Lex fault at) = FaultAt source fault at
+IsScanErrorOf source Memory = Unit {0}

@@ -1,5 +1,5 @@
 // The token at the front of bytes.
-ghost use Rattle.std.specs.Prelude.{◌≡◌, nat_le, [], false};
+ghost use Rattle.std.specs.Prelude.{◌≡◌, nat_le, []};
 ghost use Rattle.alma_base.specs.Bytes.{is_letter};
 ghost use Rattle.alma_base.specs.Reading.{is_digit};
 ghost use Rattle.alma_scan.specs.Bytes.{Begins, AllIn, is_quote, value_of};

@@ -5,7 +5,7 @@ ghost use Rattle.alma_scan.specs.Inner.Fronts.{IsGapEnd};
 
 use crate::byte::{Class, split_run};
 
-/// What stands behind these two bytes.
+/// What stands behind these two bytes; None where the front is another.
 pub fn skip_two(bytes: &[u8], first: u8, second: u8) -> Option<&[u8]>
     ensures { MatchOption result (starts_with_two first second bytes.now ≡ false)
         (λ rest. bytes.now ≡ first ∷ second ∷ rest.now) }

@@ -115,14 +115,15 @@ impl<'s> Scanner<'s> {
 }
 
 ghost use Rattle.alma_scan.specs.Tokens.{Tokens, IsSlice};
-ghost use Rattle.alma_scan.specs.Scanned.{lexemes, IsStopOf};
+ghost use Rattle.alma_scan.specs.Scanned.{lexemes, IsScanErrorOf};
 
-/// All tokens of a source, or its first lexical fault.
+/// All tokens of a source in order, or its first lexical fault. Their texts borrow from the source;
+/// only the list takes memory.
 pub fn scan(alloc: Global, source: &[u8]) -> Result<Vec<Token<'_>>, ScanError>
     ensures tokens { IfOk result (λ tokens. Tokens source.now (lexemes tokens.items)) }
     ensures slices { IfOk result (λ tokens. All (IsSlice source.now) (lexemes tokens.items)) }
     ensures count { IfOk result (λ tokens. vec_len tokens ≤ length source.now) }
-    ensures fault { IfErr result (λ error. IsStopOf source.now error) }
+    ensures fault { IfErr result (λ error. IsScanErrorOf source.now error) }
 {
     let mut scanner = Scanner::new(source);
     let mut tokens = Vec::new(alloc);

@@ -88,14 +88,14 @@ fn find(table: &[Spelling], text: &[u8]) -> Option<Kind>
     None
 }
 
-/// The kind of a symbol.
+/// The kind of a symbol; None for any other text.
 pub fn symbol_kind(text: &[u8]) -> Option<Kind>
     ensures { result ≡ look_up symbols text.now }
 {
     find(&SYMBOLS, text)
 }
 
-/// The kind of a reserved word.
+/// The kind of a reserved word, which is in capitals; None for any other text.
 pub fn reserved_kind(text: &[u8]) -> Option<Kind>
     ensures { result ≡ look_up reserved_words text.now }
 {

@@ -28,9 +28,10 @@ use Rattle.alma_scan.proofs.Slices.{slices}
 use Rattle.alma_parse.specs.declared.error.ParseError.TheVariants as parse_error
 use Rattle.alma_parse_cursor.specs.Parsing.{kinds_of}
 use Rattle.alma_parse.specs.Refusals.{Refuses}
+use Rattle.alma_resolved.specs.Whole.{kinds_in}
 use Rattle.alma_source.specs.declared.fault.SourceFault.{SourceFault}
 use Rattle.alma_source.specs.declared.fault.SourceFault.TheVariants.{Lex, Syntax, Check}
-use Rattle.alma_source.specs.Refusal.{kinds, offset_of, IsParsed, IsProgramOf, SyntaxFaultAt, CheckFaultAt, IsRefused, IsOfGrammar}
+use Rattle.alma_source.specs.Refusal.{offset_of, IsParsed, IsProgramOf, SyntaxFaultAt, CheckFaultAt, IsRefused, IsOfGrammar}
 
 -- ---- offsets of tokens
 
@@ -55,7 +56,7 @@ offset_within source (token ∷ tokens) zero h = let here = h zero token (omega 
 offset_within source (token ∷ tokens) (suc index) h = offset_within source tokens index (λ k d lt. h (suc k) d (omega (arith, lt)))
 
 -- the kinds of tokens, by the tokens as the scanner gives them
-pub kinds_are : (tokens : List Token) → kinds (lexemes tokens) ≡ kinds_of tokens
+pub kinds_are : (tokens : List Token) → kinds_in (lexemes tokens) ≡ kinds_of tokens
 kinds_are tokens = map-map (λ (token : Lexeme). token.kind) lexeme tokens
 
 -- what is parsed is a tree of the source
@@ -235,13 +236,13 @@ one_syntax_fault : (source : List ℕ) (fault other : SyntaxFault) (at place : �
     → (fault ≡ other) × (at ≡ place)
 one_syntax_fault source fault other at place h i =
     let same : i.tokens ≡ h.tokens = tokens_once (length source) source i.tokens h.tokens i.scanned h.scanned in
-    let there : Refuses (parse_error.Syntax other i.index) (kinds h.tokens)
-    = subst (λ (ts : List Lexeme). Refuses (parse_error.Syntax other i.index) (kinds ts)) same i.refused in
-    let index : i.index ≡ h.index = one_index (kinds h.tokens) i.index h.index
-    (cut_of other i.index (kinds h.tokens) there) (cut_of fault h.index (kinds h.tokens) h.refused) in
-    let here : Refuses (parse_error.Syntax other h.index) (kinds h.tokens)
-    = subst (λ k. Refuses (parse_error.Syntax other k) (kinds h.tokens)) index there in (
-      one_fault (kinds h.tokens) h.index fault other h.refused here,
+    let there : Refuses (parse_error.Syntax other i.index) (kinds_in h.tokens)
+    = subst (λ (ts : List Lexeme). Refuses (parse_error.Syntax other i.index) (kinds_in ts)) same i.refused in
+    let index : i.index ≡ h.index = one_index (kinds_in h.tokens) i.index h.index
+    (cut_of other i.index (kinds_in h.tokens) there) (cut_of fault h.index (kinds_in h.tokens) h.refused) in
+    let here : Refuses (parse_error.Syntax other h.index) (kinds_in h.tokens)
+    = subst (λ k. Refuses (parse_error.Syntax other k) (kinds_in h.tokens)) index there in (
+      one_fault (kinds_in h.tokens) h.index fault other h.refused here,
       h.place ∙ ap (λ k. offset_of (length source) h.tokens k) (sym index)
           ∙ ap (λ (ts : List Lexeme). offset_of (length source) ts i.index) (sym same)
           ∙ sym i.place,
@@ -273,7 +274,7 @@ same_tree source s t m n a b =
     let same : s ≡ t = tokens_once (length source) source s t a.whole.scanned b.whole.scanned in
     record {
       tokens = same;
-      trees = one_tree_of_a_spelling m n (length s) (sym a.whole.spelled ∙ ap kinds same ∙ b.whole.spelled) a.whole.numbered
+      trees = one_tree_of_a_spelling m n (length s) (sym a.whole.spelled ∙ ap kinds_in same ∙ b.whole.spelled) a.whole.numbered
           (subst (λ (ts : List Lexeme). IsNumbered n (length ts)) (sym same) b.whole.numbered);
     }
 
@@ -315,8 +316,8 @@ tree_refused : (source : List ℕ) (fault : SyntaxFault) (at : ℕ) (tokens : Li
     → IsParsed source tokens tree → ⊥
 tree_refused source fault at tokens tree h p =
     let same : tokens ≡ h.tokens = tokens_once (length source) source tokens h.tokens p.whole.scanned h.scanned in
-    program_refused fault h.index (kinds h.tokens) h.refused
-    (subst (λ (ts : List Lexeme). IsProgram (kinds ts)) same ((plain_module tree, sym p.whole.spelled), p.shallow))
+    program_refused fault h.index (kinds_in h.tokens) h.refused
+    (subst (λ (ts : List Lexeme). IsProgram (kinds_in ts)) same ((plain_module tree, sym p.whole.spelled), p.shallow))
 
 -- a source is refused for one fault, at one place
 pub one_refusal : (source : List ℕ) (fault other : SourceFault) (at place : ℕ) → IsRefused source fault at → IsRefused source other place
@@ -359,11 +360,11 @@ refused_no_program source (Check fault) offset p h i = unbroken_refused source f
 -- what is refused for a fault of tokens or of syntax has no tokens that spell a program of the grammar
 pub refused_no_spelling : (source : List ℕ) (fault : SourceFault) (offset : ℕ) (tokens : List Lexeme) → IsOfGrammar fault
     → IsRefused source fault offset
-    → Tokens source tokens → IsProgram (kinds tokens) → ⊥
+    → Tokens source tokens → IsProgram (kinds_in tokens) → ⊥
 refused_no_spelling source (Lex fault) offset tokens g h scanned p = never_both (length source) source tokens h.0 fault offset scanned h.1
 refused_no_spelling source (Syntax fault) offset tokens g h scanned p =
     let same : tokens ≡ h.tokens = tokens_once (length source) source tokens h.tokens scanned h.scanned in
-    program_refused fault h.index (kinds h.tokens) h.refused (subst (λ (ts : List Lexeme). IsProgram (kinds ts)) same p)
+    program_refused fault h.index (kinds_in h.tokens) h.refused (subst (λ (ts : List Lexeme). IsProgram (kinds_in ts)) same p)
 refused_no_spelling source (Check fault) offset tokens g h scanned p = g
 
 -- what is refused for a fault of tokens or of syntax has no tree

@@ -20,8 +20,9 @@ use Rattle.alma_rules.specs.View.{view_module}
 use Rattle.alma_rules.specs.Modules.{broken_rules, first_token_of}
 use Rattle.alma_resolved.proofs.ModuleSound.{program_resolved}
 use Rattle.alma_resolved.proofs.Standing.{numbered_stands}
+use Rattle.alma_resolved.specs.Whole.{kinds_in}
 use Rattle.alma_source.specs.declared.fault.SourceFault.TheVariants.{Lex, Syntax, Check}
-use Rattle.alma_source.specs.Refusal.{kinds, offset_of, place_of, IsParsed}
+use Rattle.alma_source.specs.Refusal.{offset_of, place_of, IsParsed}
 use Rattle.alma_source.specs.Verdict.{Verdict, Accepted, Rejected, IsVerdict}
 use Rattle.alma_source.proofs.RefusalLemmas.{one_program, one_refusal, refused_no_program}
 use Rattle.alma_source.proofs.ModuleValues.{numbered_module}
@@ -59,7 +60,7 @@ judged source tokens tree (first ∷ faults) parsed some =
 
 -- by how reading its tokens ends: at the end with a tree, or in front of a token that is refused
 read_so : (source : List ℕ) (tokens : List Lexeme) (end : End) → Tokens source tokens → length tokens < 2 ^ 63
-    → IsExact (kinds tokens) end → (verdict : Verdict) × IsVerdict source verdict
+    → IsExact (kinds_in tokens) end → (verdict : Verdict) × IsVerdict source verdict
 read_so source tokens done scanned few h =
     let size : length (spelling h.0.0) ≡ length tokens = ap length h.0.1 ∙ length-map tokens (λ (token : Lexeme). token.kind) in
     let m = numbered_module h.0.0 (subst (λ n. n < 2 ^ 63) (sym size) few) in
@@ -110,7 +111,7 @@ scanned_so : (source : List ℕ) → length source ≤ source_limit
 scanned_so source short (inl h) =
     let count = count_of (length source) source h.0 [] h.1 in
     let few : length h.0 < 2 ^ 63 = omega (arith, short, count) in
-    read_so source h.0 (reading true (kinds h.0) 0 whole) h.1 few (exact_ends.ends_so (kinds h.0))
+    read_so source h.0 (reading true (kinds_in h.0) 0 whole) h.1 few (exact_ends.ends_so (kinds_in h.0))
 scanned_so source short (inr h) = (Rejected (Lex h.0) (place_of source h.1), (h.1, h.2, refl))
 
 pub some_verdict : (source : List ℕ) → length source ≤ source_limit → (verdict : Verdict) × IsVerdict source verdict

@@ -1,15 +1,15 @@
 -- Which sources are programs of the language, and which are refused, with which fault and where.
-use Rattle.std.specs.Prelude.{◌≡◌, ◌≤◌, ℕ, zero, suc, List, [], ◌∷◌, length, map, Some}
+use Rattle.std.specs.Prelude.{◌≡◌, ◌≤◌, ℕ, zero, suc, List, [], ◌∷◌, length, Some}
+use Rattle.alma_base.specs.Limits.{depth_limit}
 use Rattle.alma_base.specs.declared.fault.CheckFault.{CheckFault}
 use Rattle.alma_base.specs.declared.fault.SyntaxFault.{SyntaxFault}
 use Rattle.alma_base.specs.declared.place.Place.{Place}
-use Rattle.alma_tree.specs.declared.kind.Kind.{Kind}
 use Rattle.alma_tree.specs.declared.module.Module.{Module}
 use Rattle.alma_tree.specs.Depth.{depth}
 use Rattle.alma_ir.specs.Tree.{Program}
 use Rattle.alma_rules.specs.View.{view_module}
 use Rattle.alma_rules.specs.Modules.{broken_rules, resolution, check_fault, first_token_of}
-use Rattle.alma_resolved.specs.Whole.{IsTreeOf}
+use Rattle.alma_resolved.specs.Whole.{kinds_in, IsTreeOf}
 use Rattle.alma_scan.specs.Tokens.{Lexeme, Tokens}
 use Rattle.alma_scan.specs.Faults.{FaultAt}
 use Rattle.alma_scan.specs.Places.{line_at, column_at}
@@ -20,10 +20,6 @@ use Rattle.alma_source.specs.declared.fault.SourceFault.TheVariants.{Lex, Syntax
 use Rattle.alma_source.specs.declared.stop.SourceStop.{SourceStop}
 use Rattle.alma_source.specs.declared.stop.SourceStop.TheVariants as stops
 
--- the kinds of tokens
-abbrev pub kinds : List Lexeme → List Kind
-kinds tokens = map (λ token. token.kind) tokens
-
 -- the offset of the token of this index; where there is none, that of the end of a source of this size
 abbrev pub offset_of : (size : ℕ) → List Lexeme → (index : ℕ) → ℕ
 offset_of size [] index = size
@@ -33,7 +29,7 @@ offset_of size (token ∷ tokens) (suc index) = offset_of size tokens index
 -- the source has these tokens, and they spell this tree, which is not too deep
 pub record IsParsed (source : List ℕ) (tokens : List Lexeme) (tree : Module) : Type 0 where
   pub whole : IsTreeOf source tokens tree
-  pub shallow : depth (kinds tokens) ≤ 100
+  pub shallow : depth (kinds_in tokens) ≤ depth_limit
 
 -- the source is a program: no rule is broken in its tree, and this is the resolved program
 pub record IsProgramOf (source : List ℕ) (p : Program) : Type 0 where
@@ -48,7 +44,7 @@ pub record SyntaxFaultAt (source : List ℕ) (fault : SyntaxFault) (offset : ℕ
   pub tokens : List Lexeme
   pub index : ℕ
   pub scanned : Tokens source tokens
-  pub refused : Refuses (parse_error.Syntax fault index) (kinds tokens)
+  pub refused : Refuses (parse_error.Syntax fault index) (kinds_in tokens)
   pub place : offset ≡ offset_of (length source) tokens index
 
 -- the source has a tree, and this is the least of the broken rules, at the first token of its node

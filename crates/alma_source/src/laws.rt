@@ -3,8 +3,9 @@ ghost use Rattle.std.specs.Prelude.{◌≡◌, ◌≤◌, List, length, ℕ};
 ghost use Rattle.alma_base.specs.Limits.{source_limit};
 ghost use Rattle.alma_grammar.specs.Laws.{IsProgram};
 ghost use Rattle.alma_ir.specs.Tree.{Program};
+ghost use Rattle.alma_resolved.specs.Whole.{kinds_in};
 ghost use Rattle.alma_scan.specs.Tokens.{Lexeme, Tokens};
-ghost use Rattle.alma_source.specs.Refusal.{kinds, IsOfGrammar, IsParsed, IsRefused, IsProgramOf};
+ghost use Rattle.alma_source.specs.Refusal.{IsOfGrammar, IsParsed, IsRefused, IsProgramOf};
 ghost use Rattle.alma_source.specs.declared.fault.SourceFault.{SourceFault};
 ghost use Rattle.alma_source.specs.Verdict.{Verdict, IsVerdict};
 ghost use Rattle.alma_tree.specs.declared.module.Module.{Module};
@@ -16,7 +17,7 @@ pub fn a_refused_source_is_no_program()
         → IsRefused source fault offset → IsProgramOf source p → ⊥ }
     ensures grammar { (source : List ℕ) (fault : SourceFault) (offset : ℕ) (tokens : List Lexeme)
         → IsOfGrammar fault → IsRefused source fault offset → Tokens source tokens
-        → IsProgram (kinds tokens) → ⊥ }
+        → IsProgram (kinds_in tokens) → ⊥ }
 {}
 
 /// What is refused for a fault of tokens or of syntax has no tree.

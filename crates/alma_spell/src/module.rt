@@ -192,7 +192,7 @@ fn push_decl(tree: &Decl, out: &mut Vec<Kind>) -> Result<(), NoMemory>
     }
 }
 
-/// The kinds of the tokens that the tree stands for.
+/// The kinds of the tokens that the tree stands for, from MODULE to the point behind its END.
 pub fn spell(alloc: Global, tree: &Module) -> Result<Vec<Kind>, NoMemory>
     ensures spelled { IfOk result (λ kinds. kinds.items ≡ spelling (view_module tree.now)) }
 {

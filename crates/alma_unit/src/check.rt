@@ -68,7 +68,8 @@ fn check_tokens(alloc: Global, source: &[u8], tokens: &[Token<'_>]) -> Result<Pr
     }
 }
 
-/// Scans, parses and checks a source: its resolved program.
+/// Scans, parses and checks a source: its resolved program; or the fault of the first of the three
+/// that refuses it, with its offset in bytes: the end of the source where a token is lacking.
 pub fn check_source(alloc: Global, source: &[u8]) -> Result<Program, SourceStop>
     requires short { length source.now ≤ source_limit }
     ensures program { IfOk result (λ program. IsProgramOf source.now (program_of program)) }

@@ -1,13 +1,13 @@
 use Rattle.alma_parse.proofs.Places.{unexpected_at, deep_at, unexpected_within, deep_within, found_depth}
 use Rattle.alma_parse.proofs.parser.parse.Goals as goal
 
-pub place_of-requires : goal.place_of-requires
-place_of-requires c =
+pub index_of-requires : goal.index_of-requires
+index_of-requires c =
     let h = rw c.in-Err-Unexpected.field-0-is at c.in-Err-Unexpected.ensures.read in
     record { shorter = unexpected_within c.args.tokens.now c.in-Err-Unexpected.rest.now h }
 
-pub place_of-requires-in-Err-TooDeep : goal.place_of-requires-in-Err-TooDeep
-place_of-requires-in-Err-TooDeep c =
+pub index_of-requires-in-Err-TooDeep : goal.index_of-requires-in-Err-TooDeep
+index_of-requires-in-Err-TooDeep c =
     let h = rw c.in-Err-TooDeep.field-0-is at c.in-Err-TooDeep.ensures.read in
     record { shorter = deep_within c.args.tokens.now c.in-Err-TooDeep.rest.now h }
 
@@ -18,9 +18,9 @@ returns-in-Ok-clause-found c =
 pub returns-in-Err-Unexpected-clause-refused : goal.returns-in-Err-Unexpected-clause-refused
 returns-in-Err-Unexpected-clause-refused c =
     let h = rw c.in-Err-Unexpected.field-0-is at c.in-Err-Unexpected.ensures.read in
-    unexpected_at c.args.tokens.now c.in-Err-Unexpected.rest.now c.place_of.result h c.place_of.ensures.place
+    unexpected_at c.args.tokens.now c.in-Err-Unexpected.rest.now c.index_of.result h c.index_of.ensures.index
 
 pub returns-in-Err-TooDeep-clause-refused : goal.returns-in-Err-TooDeep-clause-refused
 returns-in-Err-TooDeep-clause-refused c =
     let h = rw c.in-Err-TooDeep.field-0-is at c.in-Err-TooDeep.ensures.read in
-    deep_at c.args.tokens.now c.in-Err-TooDeep.rest.now c.place_of-in-Err-TooDeep.result h c.place_of-in-Err-TooDeep.ensures.place
+    deep_at c.args.tokens.now c.in-Err-TooDeep.rest.now c.index_of-in-Err-TooDeep.result h c.index_of-in-Err-TooDeep.ensures.index

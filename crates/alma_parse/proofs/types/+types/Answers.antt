@@ -211,24 +211,24 @@ plain_list-returns-in_err-next t c =
 pub plain_list-returns : goal.plain_list-returns
 plain_list-returns t c = record { read = ended c.loop-after.invariant (no_plain_tail _ c.in_default.ensures.passes) }
 
-pub field_list_list-loop-after-init : goal.field_list_list-loop-after-init
-field_list_list-loop-after-init t c = rw c.new-more.ensures.items (begun field_lists_listed)
+pub field_lists-loop-after-init : goal.field_lists-loop-after-init
+field_lists-loop-after-init t c = rw c.new-more.ensures.items (begun field_lists_listed)
 
-pub field_list_list-loop-after-preserved : goal.field_list_list-loop-after-preserved
-field_list_list-loop-after-preserved t c = rw c.in_ok-push.ensures.items
+pub field_lists-loop-after-preserved : goal.field_lists-loop-after-preserved
+field_lists-loop-after-preserved t c = rw c.in_ok-push.ensures.items
     (grown field_lists_listed c.loop-after.invariant (where_passed c.in-Some.ensures.passes a_field_list_tail)
     (then (passed refl refl c.in-Some.ensures.passes) c.in_ok-next.ensures.read))
 
-pub field_list_list-returns-in_err-next : goal.field_list_list-returns-in_err-next
-field_list_list-returns-in_err-next t c =
+pub field_lists-returns-in_err-next : goal.field_lists-returns-in_err-next
+field_lists-returns-in_err-next t c =
     let p = err_from_is_err_and c.from_residual.result c.from_residual.ensures.1 in
     record {
       read = rw (p.1, p.2) (broken c.loop-after.invariant (where_passed c.in-Some.ensures.passes a_field_list_tail) (after
           (passed refl refl c.in-Some.ensures.passes) c.in_err-next.ensures.read));
     }
 
-pub field_list_list-returns : goal.field_list_list-returns
-field_list_list-returns t c = record { read = ended c.loop-after.invariant (no_field_list_tail _ c.in_default.ensures.passes) }
+pub field_lists-returns : goal.field_lists-returns
+field_lists-returns t c = record { read = ended c.loop-after.invariant (no_field_list_tail _ c.in_default.ensures.passes) }
 
 pub dimensions_list-loop-alloc-init : goal.dimensions_list-loop-alloc-init
 dimensions_list-loop-alloc-init t c = rw c.new-more.ensures.items (begun dimensions_listed)

@@ -21,8 +21,8 @@ decreases-plain_list l = 8 * length (position_of l.at).kinds + 1
 abbrev pub decreases-fields : goal.decreases-fields
 decreases-fields l = 8 * length (position_of l.at).kinds + 1
 
-abbrev pub decreases-field_list_list : goal.decreases-field_list_list
-decreases-field_list_list l = 8 * length (position_of l.at).kinds + 1
+abbrev pub decreases-field_lists : goal.decreases-field_lists
+decreases-field_lists l = 8 * length (position_of l.at).kinds + 1
 
 abbrev pub decreases-dimensions_list : goal.decreases-dimensions_list
 decreases-dimensions_list l = 8 * length (position_of l.at).kinds + 2
@@ -54,9 +54,9 @@ invariant-plain_list-loop-after l = Loops (spell_plain_tail (plains_of l.more.it
 abbrev pub decreases-plain_list-loop-after : goal.decreases-plain_list-loop-after
 decreases-plain_list-loop-after l = length (position_of l.at).kinds
 
-abbrev pub invariant-field_list_list-loop-after : goal.invariant-field_list_list-loop-after
-invariant-field_list_list-loop-after l = Loops (spell_field_list_tail (field_lists_of l.more.items))
+abbrev pub invariant-field_lists-loop-after : goal.invariant-field_lists-loop-after
+invariant-field_lists-loop-after l = Loops (spell_field_list_tail (field_lists_of l.more.items))
     (numbers_of_field_lists l.more.items) field_list_tail l.depth (position_of l.fn.at) (position_of l.at)
 
-abbrev pub decreases-field_list_list-loop-after : goal.decreases-field_list_list-loop-after
-decreases-field_list_list-loop-after l = length (position_of l.at).kinds
+abbrev pub decreases-field_lists-loop-after : goal.decreases-field_lists-loop-after
+decreases-field_lists-loop-after l = length (position_of l.at).kinds
