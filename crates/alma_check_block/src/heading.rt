@@ -21,8 +21,8 @@ use alma_ir::Param;
 use alma_tree::{Block, Name, Params};
 use std::alloc::Global;
 
-// Where so many blocks are open, the module's and those of eight procedures, a procedure stands
-// too deep.
+/// Where so many blocks are open, the module's and those of eight procedures, a procedure stands too
+/// deep.
 const FULL_DEPTH: usize = 9;
 
 /// What a heading leaves: its frame with the parameters, the heading, None where it is Bad, and the

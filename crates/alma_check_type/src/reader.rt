@@ -20,7 +20,7 @@ use indexmap::IndexMap;
 use std::alloc::Global;
 use std::marker::Model;
 
-// The number of names that stand outside each module: three types, TRUE and FALSE.
+/// The number of names that stand outside each module: three types, TRUE and FALSE.
 const PREDECLARED_COUNT: usize = 5;
 
 /// An environment whose names are counted, so that it is known when their numbers run out.
