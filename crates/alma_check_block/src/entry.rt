@@ -65,13 +65,20 @@ fn type_entry(shape: Option<u32>) -> Entry
     }
 }
 
+// The token behind so many tokens that begin two tokens behind this one, and the semicolon there.
+fn behind_tokens(token: u32, count: u32) -> Result<u32, NoMemory>
+    ensures { IfOk result (λ n. n ≡ token + 3 + count) }
+{
+    let start = token.checked_add(3).ok_or(NoMemory)?;
+    start.checked_add(count).ok_or(NoMemory)
+}
+
 // The token behind an expression that begins two tokens behind this one, and the semicolon there.
 fn behind_expr(alloc: Global, token: u32, expr: &Expr) -> Result<u32, NoMemory>
     ensures { IfOk result (λ n. n ≡ token + 3 + width (mark_expr (view.view_expr expr.now))) }
 {
     let width = width_of_expr(alloc, expr)?;
-    let start = token.checked_add(3).ok_or(NoMemory)?;
-    start.checked_add(width).ok_or(NoMemory)
+    behind_tokens(token, width)
 }
 
 /// The token behind a type that begins two tokens behind this one, and the semicolon there.
@@ -80,8 +87,7 @@ pub fn behind_type(alloc: Global, token: u32, tree: &TypeNode) -> Result<u32, No
         n ≡ token + 3 + width (mark_type (view.view_type_node tree.now))) }
 {
     let width = width_of_type(alloc, tree)?;
-    let start = token.checked_add(3).ok_or(NoMemory)?;
-    start.checked_add(width).ok_or(NoMemory)
+    behind_tokens(token, width)
 }
 
 fn read_const(

@@ -21,6 +21,10 @@ use alma_ir::Param;
 use alma_tree::{Block, Name, Params};
 use std::alloc::Global;
 
+/// Where so many blocks are open, the module's and those of eight procedures, a procedure stands too
+/// deep.
+const FULL_DEPTH: usize = 9;
+
 /// What a heading leaves: its frame with the parameters, the heading, None where it is Bad, and the
 /// block round it.
 #[derive(Drop)]
@@ -142,7 +146,7 @@ fn read_result(
 fn too_deep(reader: &Reader, node: u32) -> Option<BrokenRule>
     ensures { fault_of result ≡ first (broken_at node (rules.too_deep reader.now)) }
 {
-    if reader.env().scopes.depth() < 9 {
+    if reader.env().scopes.depth() < FULL_DEPTH {
         return None;
     }
     Some(BrokenRule {

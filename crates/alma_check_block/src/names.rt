@@ -27,7 +27,7 @@ fn add_name(
         name.now.token) }
 {
     let text = reader.env().text(name.token);
-    with_name(names, alloc, text, name.token)
+    with_name(alloc, names, text, name.token)
 }
 
 fn add_more(

@@ -14,6 +14,7 @@ use crate::expression::{as_test, as_value, no_place};
 use alma_base::{div_down, mod_down};
 use alma_check_rules::{Behind, Env, Join, Meaning, Operand, Operator, Place, TypedExpr};
 use alma_ir::{Expr, Link, Op, Test};
+use alma_names::{BOOLEAN, INTEGER};
 use alma_tree::{AddLink, AddOperator, MulLink, MulOperator, Sign};
 use std::alloc::{AllocError, Global};
 
@@ -89,8 +90,8 @@ pub fn first_mul(more: &[MulLink]) -> Operand
     }
 }
 
-/// One more operand.
-pub fn add(
+/// One more operand, behind its operator; None where an operand is Bad.
+pub fn with_operand(
     kept: Option<Vec<Behind>>,
     operator: Operator,
     typed: Option<TypedExpr>,
@@ -310,12 +311,13 @@ fn chain_of(
     }
 }
 
+// BOOLEAN behind AND and OR, and else INTEGER.
 fn chain_shape(rest: &[Behind]) -> u32
     ensures { result ≡ parts.chain_shape (operands_view rest.now) }
 {
     match first_operator(rest) {
-        None | Some(Operator::Arithmetic(_)) => 0,
-        Some(Operator::Logical) => 2,
+        None | Some(Operator::Arithmetic(_)) => INTEGER,
+        Some(Operator::Logical) => BOOLEAN,
     }
 }
 

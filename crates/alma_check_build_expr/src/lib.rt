@@ -7,8 +7,8 @@ mod expression;
 mod relation;
 
 pub use chain::{
-    add, add_operator, alone, any_and, any_or, behind, chained_in, first_add, first_mul,
-    mul_operator, no_constant_sum,
+    add_operator, alone, any_and, any_or, behind, chained_in, first_add, first_mul, mul_operator,
+    no_constant_sum, with_operand,
 };
 pub use expression::{
     argument, as_callee, as_located, as_test, as_typed, as_value, call, character, chr, desig,

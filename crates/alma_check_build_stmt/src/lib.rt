@@ -10,7 +10,8 @@ mod turns;
 pub use case::{case_arm, case_stmt};
 pub use list::{joined, with_part};
 pub use statement::{
-    assigned, bare_return, commit_stmt, condition, either_stmt, forall_stmt, guarded, if_stmt,
-    line, nothing, read, repeat_stmt, returned, test_stmt, text, while_stmt, write,
+    assign_stmt, bare_return, commit_stmt, condition, either_stmt, forall_stmt, guarded_arm,
+    if_stmt, nothing, read_stmt, repeat_stmt, return_stmt, test_stmt, text_stmt, while_stmt,
+    write_stmt, writeln_stmt,
 };
 pub use turns::{for_stmt, loop_of, some_stmt};

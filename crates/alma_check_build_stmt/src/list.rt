@@ -5,7 +5,7 @@ ghost use Rattle.alma_check_build_expr.specs.Lists.{items_in, push};
 
 use std::alloc::{AllocError, Global};
 
-// An item alone, whatever it is: a type of many variants costs nothing here.
+/// An item alone, whatever it is: a type of many variants costs nothing here.
 pub(crate) fn one<T: Drop>(alloc: Global, item: T) -> Result<Vec<T>, AllocError>
     ensures { IfOk result (λ v. v.items ≡ item ∷ []) }
 {

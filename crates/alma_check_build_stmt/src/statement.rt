@@ -81,7 +81,7 @@ fn assigned_to(
 }
 
 /// `:=`, by which a structured value is copied cell by cell.
-pub fn assigned(
+pub fn assign_stmt(
     alloc: Global,
     env: &Env,
     located: Option<Location>,
@@ -105,7 +105,7 @@ pub fn assigned(
 // ---- IF, WHILE and REPEAT
 
 /// A condition with the statements behind it.
-pub fn guarded(test: Option<Test>, body: Option<Vec<Stmt>>) -> Option<Arm>
+pub fn guarded_arm(test: Option<Test>, body: Option<Vec<Stmt>>) -> Option<Arm>
     ensures { guarded_in result ≡ both_of (test_in test) (stmts_in body) }
 {
     match test {
@@ -218,7 +218,7 @@ pub fn commit_stmt(alloc: Global, body: Option<Vec<Stmt>>) -> Result<Option<Vec<
 
 // ---- RETURN, READ and WRITE
 
-fn return_stmt(value: Option<Expr>) -> Stmt
+fn return_of(value: Option<Expr>) -> Stmt
     ensures { stmt_of result ≡ ir.Return (return_option value) }
 {
     Stmt::Return(value)
@@ -228,11 +228,11 @@ fn return_stmt(value: Option<Expr>) -> Stmt
 pub fn bare_return(alloc: Global) -> Result<Option<Vec<Stmt>>, AllocError>
     ensures { IfOk result (λ v. stmts_in v ≡ Some (parts.one_stmt (ir.Return ir.no_result))) }
 {
-    Ok(Some(single(alloc, return_stmt(None))?))
+    Ok(Some(single(alloc, return_of(None))?))
 }
 
 /// RETURN with an expression.
-pub fn returned(alloc: Global, typed: Option<TypedExpr>) -> Result<Option<Vec<Stmt>>, AllocError>
+pub fn return_stmt(alloc: Global, typed: Option<TypedExpr>) -> Result<Option<Vec<Stmt>>, AllocError>
     ensures { IfOk result (λ v. stmts_in v ≡ option_map parts.one_stmt
         (option_map (λ t. ir.Return (ir.some_result (parts.value_of t.meaning)))
         (typing_in typed))) }
@@ -241,7 +241,7 @@ pub fn returned(alloc: Global, typed: Option<TypedExpr>) -> Result<Option<Vec<St
         None => Ok(None),
         Some(typed) => {
             let value = as_value(alloc, typed.meaning)?;
-            Ok(Some(single(alloc, return_stmt(Some(value)))?))
+            Ok(Some(single(alloc, return_of(Some(value)))?))
         }
     }
 }
@@ -257,7 +257,7 @@ fn read_as(env: &Env, shape: u32) -> ReadAs
 }
 
 /// READ of one designator.
-pub fn read(
+pub fn read_stmt(
     alloc: Global,
     env: &Env,
     located: Option<Location>,
@@ -288,7 +288,7 @@ fn write_as(env: &Env, shape: u32) -> WriteAs
 }
 
 /// WRITE of one expression.
-pub fn write(
+pub fn write_stmt(
     alloc: Global,
     env: &Env,
     typed: Option<TypedExpr>,
@@ -307,7 +307,7 @@ pub fn write(
 }
 
 /// WRITE of a text.
-pub fn text(alloc: Global, bytes: &[u8]) -> Result<Option<Vec<Stmt>>, AllocError>
+pub fn text_stmt(alloc: Global, bytes: &[u8]) -> Result<Option<Vec<Stmt>>, AllocError>
     ensures { IfOk result (λ v. stmts_in v ≡ Some (parts.one_stmt (ir.WriteText bytes.now))) }
 {
     let bytes = bytes.to_vec(alloc)?;
@@ -315,7 +315,7 @@ pub fn text(alloc: Global, bytes: &[u8]) -> Result<Option<Vec<Stmt>>, AllocError
 }
 
 /// WRITELN, behind its items.
-pub fn line(items: Option<Vec<Stmt>>) -> Result<Option<Vec<Stmt>>, AllocError>
+pub fn writeln_stmt(items: Option<Vec<Stmt>>) -> Result<Option<Vec<Stmt>>, AllocError>
     ensures { IfOk result (λ v. stmts_in v ≡ option_map nodes.with_line (stmts_in items)) }
 {
     match items {

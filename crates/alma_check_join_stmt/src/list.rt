@@ -14,7 +14,7 @@ ghost use Rattle.alma_rules.specs.Onward.{Continues};
 ghost use Rattle.alma_check_join_stmt.specs.Onward.{onward_operands, onward_args, onward_stmts, onward_arms, onward_cases, onward_branches, onward_spans};
 ghost use Rattle.alma_check_join_stmt.specs.Noted.{GrowsBy, trail_for_entries};
 
-use alma_check_build_expr::add;
+use alma_check_build_expr::with_operand;
 use alma_check_build_stmt::{joined, with_part};
 use alma_check_rules::{Behind, Labels, Operator, Span, TypedExpr};
 use alma_ir::{Arg, Arm, Branch, CaseArm, Stmt};
@@ -33,7 +33,7 @@ pub fn add_operand(
         (operands_in k) (rest m)) result }
 {
     let typed = typed?;
-    let whole = add(kept, operator, typed)?;
+    let whole = with_operand(kept, operator, typed)?;
     Ok(whole)
 }
 

@@ -15,8 +15,9 @@ ghost use Rattle.alma_check_build_expr.specs.Lists.{test_in, arms_in, branches_o
 
 use alma_check_build_expr::as_located;
 use alma_check_build_stmt::{
-    assigned, bare_return, commit_stmt, condition, either_stmt, forall_stmt, guarded, if_stmt,
-    line, read, repeat_stmt, returned, test_stmt, text, while_stmt, write,
+    assign_stmt, bare_return, commit_stmt, condition, either_stmt, forall_stmt, guarded_arm,
+    if_stmt, read_stmt, repeat_stmt, return_stmt, test_stmt, text_stmt, while_stmt, write_stmt,
+    writeln_stmt,
 };
 use alma_check_rules::{
     Denotation, Env, Location, Place, TypedExpr, pass_assign, pass_bare_return, pass_constant,
@@ -79,7 +80,7 @@ pub fn join_assign(
 {
     let typed = typed?;
     pass_assign(env, node, &located, &typed)?;
-    let whole = assigned(alloc, env, located, typed)?;
+    let whole = assign_stmt(alloc, env, located, typed)?;
     Ok(whole)
 }
 
@@ -94,7 +95,7 @@ pub fn join_guarded(
         → Answers (both (of_value n (test_in test)) j) guarded_of m result }
 {
     let body = body?;
-    Ok(guarded(test, body))
+    Ok(guarded_arm(test, body))
 }
 
 /// IF, behind its ELSE part.
@@ -215,7 +216,7 @@ pub fn join_return(
 {
     let typed = typed?;
     pass_return(env, place, node, &typed)?;
-    let whole = returned(alloc, typed)?;
+    let whole = return_stmt(alloc, typed)?;
     Ok(whole)
 }
 
@@ -232,7 +233,7 @@ pub fn join_read(
 {
     let located = located?;
     pass_read(env, node, &located)?;
-    let whole = read(alloc, env, located)?;
+    let whole = read_stmt(alloc, env, located)?;
     Ok(whole)
 }
 
@@ -249,7 +250,7 @@ pub fn join_item(
 {
     let typed = typed?;
     pass_write(env, node, &typed)?;
-    let whole = write(alloc, env, typed)?;
+    let whole = write_stmt(alloc, env, typed)?;
     Ok(whole)
 }
 
@@ -265,7 +266,7 @@ pub fn check_text(
         (parts.one_stmt (ir.WriteText bytes.now)))) stmts_of n result }
 {
     pass_constant(env, place, node)?;
-    let whole = text(alloc, bytes)?;
+    let whole = text_stmt(alloc, bytes)?;
     Ok(whole)
 }
 
@@ -275,6 +276,6 @@ pub fn join_line(items: Result<Option<Vec<Stmt>>, Stop>) -> Result<Option<Vec<St
         → Answers (with nodes.with_line j) stmts_of m result }
 {
     let items = items?;
-    let whole = line(items)?;
+    let whole = writeln_stmt(items)?;
     Ok(whole)
 }

@@ -52,7 +52,7 @@ impl Marks {
         Ok(())
     }
 
-    // A statement that begins at a token.
+    /// A statement that begins at a token.
     pub(crate) fn statement(&mut self, token: u32) -> Result<(), NoMemory>
         ensures { Walks result self.old self.new (places.statement_of token) }
     {
@@ -60,7 +60,7 @@ impl Marks {
         Ok(())
     }
 
-    // A statement that begins here, with its first word.
+    /// A statement that begins here, with its first word.
     pub(crate) fn begin(&mut self) -> Result<(), NoMemory>
         ensures { Walks result self.old self.new begun }
     {
@@ -69,7 +69,7 @@ impl Marks {
         self.token()
     }
 
-    // The head of a FOR or SOME: what begins it, the variable and the word behind it.
+    /// The head of a FOR or SOME: what begins it, the variable and the word behind it.
     pub(crate) fn opening(&mut self, variable: u32) -> Result<(), NoMemory>
         ensures { Walks result self.old self.new (loop_head variable) }
     {
@@ -78,7 +78,7 @@ impl Marks {
         self.token()
     }
 
-    // A word and the bracket behind it.
+    /// A word and the bracket behind it.
     pub(crate) fn tokens(&mut self) -> Result<(), NoMemory>
         ensures { Walks result self.old self.new two_words }
     {
@@ -86,7 +86,7 @@ impl Marks {
         self.token()
     }
 
-    // A comma, and behind it one more statement of a READ, WRITE or WRITELN.
+    /// A comma, and behind it one more statement of a READ, WRITE or WRITELN.
     pub(crate) fn item(&mut self, token: u32) -> Result<(), NoMemory>
         ensures { Walks result self.old self.new (one_more token) }
     {
@@ -112,7 +112,7 @@ impl Marks {
     }
 }
 
-// One token behind a part, which is looked at here.
+/// One token behind a part, which is looked at here.
 pub(crate) fn token_behind(walked: Result<(), NoMemory>, marks: &mut Marks) -> Result<(), NoMemory>
     ensures done { OnOk result (IsOk walked) }
     ensures walks { Walks result marks.old marks.new places.token }
@@ -122,7 +122,7 @@ pub(crate) fn token_behind(walked: Result<(), NoMemory>, marks: &mut Marks) -> R
     Ok(())
 }
 
-// A node that ends behind its last part.
+/// A node that ends behind its last part.
 pub(crate) fn node_behind(
     walked: Result<(), NoMemory>,
     marks: &mut Marks,
@@ -137,7 +137,7 @@ pub(crate) fn node_behind(
     Ok(())
 }
 
-// A node that ends with a token behind its last part.
+/// A node that ends with a token behind its last part.
 pub(crate) fn closed(
     walked: Result<(), NoMemory>,
     marks: &mut Marks,

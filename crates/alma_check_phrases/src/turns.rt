@@ -17,7 +17,7 @@ use alma_rules::Stop;
 use alma_tree::{Expr, Name, Stmts};
 use std::alloc::Global;
 
-/// The head of FOR and of SOME.
+// The head of FOR and of SOME.
 fn check_head<S>(
     alloc: Global,
     env: &Env,

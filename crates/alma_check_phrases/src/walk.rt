@@ -52,8 +52,8 @@ pub fn check_stmts(
     deeper(alloc, env, place, slot, stmts, usize::MAX)
 }
 
-/// Statements in order, in a nest of at most `left` levels. A deeper one answers as where memory
-/// runs out: more than 2^64 levels fit no memory.
+// Statements in order, in a nest of at most `left` levels. A deeper one answers as where memory
+// runs out: more than 2^64 levels fit no memory.
 #[cycle(walk)]
 fn deeper(
     alloc: Global,

@@ -19,7 +19,7 @@ pub use part::{
 pub use rule::{
     pass_argument, pass_array, pass_call, pass_chr, pass_constant, pass_desig, pass_field,
     pass_index, pass_known, pass_literal, pass_name, pass_not, pass_operand, pass_relation,
-    pass_simple, pass_test, structured,
+    pass_simple, pass_test,
 };
 pub use stmt_rule::{
     is_above, pass_assign, pass_bare_return, pass_by, pass_case, pass_label, pass_loop,

@@ -221,8 +221,8 @@ pub fn no_integer(env: &Env, typed: &Option<TypedExpr>) -> bool
     }
 }
 
-/// Whether a value that is known to have a type is an array or a record.
-pub fn structured(env: &Env, typed: &Option<TypedExpr>) -> bool
+// Whether a value that is known to have a type is an array or a record.
+fn structured(env: &Env, typed: &Option<TypedExpr>) -> bool
     ensures { result ≡ holds (rules.structured (scene_of env.now somewhere)) (typing_in typed.now) }
 {
     match typed {

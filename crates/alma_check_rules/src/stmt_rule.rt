@@ -15,7 +15,7 @@ use alma_base::{CheckFault, Range};
 use alma_names::{BOOLEAN, CHAR, INTEGER};
 use alma_rules::Stop;
 
-/// `:=`, behind both sides.
+/// `:=`, behind both sides: TypeMismatch where their base types differ.
 pub fn pass_assign(
     env: &Env,
     node: u32,
@@ -55,7 +55,9 @@ fn no_loop_variable(env: &Env, place: Place, found: Found) -> bool
     }
 }
 
-/// The name of a loop's variable.
+/// The name of a loop's variable: Undeclared where no declaration of it is visible, NotVariable
+/// where it names something else. A routine whose heading is Bad is refused in a constant place
+/// alone, and a Bad name nowhere.
 pub fn pass_loop_name(env: &Env, place: Place, node: u32, found: Found) -> Result<(), Stop>
     ensures { Passes node (rules.loop_name_rules (scene_of env.now place)
         (found_view (headings_in env.now) found) None) result }
@@ -82,7 +84,8 @@ fn other_base(env: &Env, shape: u32, typed: &Option<TypedExpr>) -> bool
     }
 }
 
-/// FOR and SOME, behind the variable and the bounds.
+/// FOR and SOME, behind the variable and the bounds: TypeMismatch where the variable is an array or
+/// a record, or a bound has another base type.
 pub fn pass_loop(
     env: &Env,
     node: u32,
@@ -125,7 +128,7 @@ fn zero_step(env: &Env, typed: &Option<TypedExpr>) -> bool
     }
 }
 
-/// The step behind BY.
+/// The step behind BY: TypeMismatch where its base is not INTEGER, ConstRange where it is zero.
 pub fn pass_by(env: &Env, node: u32, typed: &Option<TypedExpr>) -> Result<(), Stop>
     ensures { Passes node (rules.by_rules (scene_of env.now somewhere)
         (typing_in typed.now)) result }
@@ -141,7 +144,7 @@ pub fn pass_by(env: &Env, node: u32, typed: &Option<TypedExpr>) -> Result<(), St
 
 // ---- CASE
 
-/// CASE, behind its value.
+/// CASE, behind its value: TypeMismatch where that is an array or a record.
 pub fn pass_case(env: &Env, node: u32, typed: &Option<TypedExpr>) -> Result<(), Stop>
     ensures { Passes node (rules.case_rules {A = parts.Typing} (scene_of env.now somewhere)
         (typing_in typed.now) None) result }
@@ -225,7 +228,10 @@ fn label_twice(env: &Env, earlier: &Labels, low: &TypedExpr, high: &TypedExpr) -
         && shares_with(earlier, span_of(env, low, high))
 }
 
-/// A label of CASE with the labels before it.
+/// A label of CASE with the labels before it: TypeMismatch where an end has another base type than
+/// the value of the CASE, which is simple, then ConstRange where the low end is greater, then
+/// LabelTwice where it shares a value with one before it. A label of one value is handed over as
+/// both ends.
 pub fn pass_label(
     env: &Env,
     node: u32,
@@ -281,7 +287,9 @@ fn other_form(with_value: bool, returns: Returns) -> bool
     }
 }
 
-/// RETURN with an expression.
+/// RETURN with an expression: TypeMismatch where its base type is not that of the result, then
+/// ReturnForm outside a function, then JumpOut inside FORALL, COMMIT, NOT or a parenthesised
+/// sequence.
 pub fn pass_return(
     env: &Env,
     place: Place,
@@ -303,7 +311,7 @@ pub fn pass_return(
     Ok(())
 }
 
-/// RETURN alone.
+/// RETURN alone: ReturnForm in a function, then JumpOut as with an expression.
 pub fn pass_bare_return(env: &Env, place: Place, node: u32) -> Result<(), Stop>
     ensures { Passes node (rules.return_rules (scene_of env.now place) false None) result }
 {
@@ -316,7 +324,7 @@ pub fn pass_bare_return(env: &Env, place: Place, node: u32) -> Result<(), Stop>
     Ok(())
 }
 
-/// A designator that READ fills.
+/// A designator that READ fills: BadRead where its base is neither INTEGER nor CHAR.
 pub fn pass_read(env: &Env, node: u32, located: &Option<Location>) -> Result<(), Stop>
     ensures { Passes node (rules.read_rules (scene_of env.now somewhere) (located_in located.now))
         result }
@@ -332,7 +340,8 @@ pub fn pass_read(env: &Env, node: u32, located: &Option<Location>) -> Result<(),
     }
 }
 
-/// An item of WRITE.
+/// An item of WRITE: BadWrite where its base is neither INTEGER, CHAR nor BOOLEAN. A literal that
+/// is no CHAR does not come here.
 pub fn pass_write(env: &Env, node: u32, typed: &Option<TypedExpr>) -> Result<(), Stop>
     ensures { Passes node (rules.write_rules (scene_of env.now somewhere) (typing_in typed.now))
         result }

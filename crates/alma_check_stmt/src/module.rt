@@ -77,7 +77,7 @@ fn open_module<'e, 's>(
 }
 
 // What was found of a module of this name.
-fn with_name(
+fn whole_of(
     alloc: Global,
     name: &[u8],
     globals: Vec<alma_ir::Global>,
@@ -127,7 +127,7 @@ fn judge_whole(
     )?;
     check_end(&reader, &mut checked, &module.name, &module.end_name);
     let name = reader.env().text(module.name.token);
-    with_name(alloc, name, frame.variables, checked)
+    whole_of(alloc, name, frame.variables, checked)
 }
 
 // The least of the broken rules, with the first token of its node.

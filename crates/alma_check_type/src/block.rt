@@ -121,18 +121,18 @@ impl<'e, 's> Reader<'e, 's> {
 /// Adds a name to those of a block with the token of its declaration, where none of them has its
 /// text.
 pub fn with_name(
-    map: &mut IndexMap<Vec<u8>, u32>,
     alloc: Global,
+    names: &mut IndexMap<Vec<u8>, u32>,
     text: &[u8],
     token: u32,
 ) -> Result<(), NoMemory>
-    ensures { OnOk result (declares_view map.new ≡ with_text (declares_view map.old) text.now
-        token) }
+    ensures { OnOk result (declares_view names.new ≡ with_text (declares_view names.old)
+        text.now token) }
 {
-    if map.contains_key(text) {
+    if names.contains_key(text) {
         return Ok(());
     }
     let name = text.to_vec(alloc)?;
-    map.insert(name, token)?;
+    names.insert(name, token)?;
     Ok(())
 }

@@ -20,6 +20,9 @@ use indexmap::IndexMap;
 use std::alloc::Global;
 use std::marker::Model;
 
+/// The number of names that stand outside each module: three types, TRUE and FALSE.
+const PREDECLARED_COUNT: usize = 5;
+
 /// An environment whose names are counted, so that it is known when their numbers run out.
 #[derive(Drop)]
 pub struct Reader<'e, 's> {
@@ -79,8 +82,8 @@ impl<'e, 's> Reader<'e, 's> {
         Ok(Reader {
             env,
             below: Vec::new(alloc),
-            top: 5,
-            all: 5,
+            top: PREDECLARED_COUNT,
+            all: PREDECLARED_COUNT,
         })
     }
 

@@ -1,6 +1,6 @@
 -- What the tables of shapes take, and the names of an enumeration.
 use Rattle.std.specs.Global.{Global}
-use Rattle.std.specs.Prelude.{ℕ, Bool, true, false, List, [], ◌∷◌, map, slice_get, Option, None, Some, Vec}
+use Rattle.std.specs.Prelude.{ℕ, Bool, true, false, List, map, slice_get, Option, None, Some, Vec}
 use Rattle.alma_names.specs.Shapes.{PlainShape, PlainField, is_index}
 use Rattle.alma_rules.specs.Types.{ShapeOrLimit, formed, too_large}
 

@@ -33,7 +33,7 @@ returns c =
     let source = c.args.source.now in
     let tokens = lexemes c.args.tokens.now in
     named_judged source tokens (view.view_module m) c.text-name.result.now c.check_block.new.frame.variables c.check_end.new.checked
-    c.with_name.result c.with_name.ensures.name c.with_name.ensures.globals c.with_name.ensures.checked
+    c.whole_of.result c.whole_of.ensures.name c.whole_of.ensures.globals c.whole_of.ensures.checked
     (module_by source tokens m.node (view.view_name m.name) m.block.node (view.decls_of m.block.decls.items) (view.body_of m.block.body)
     (view.view_name m.end_name)
     c.in_ok-reader.reader c.check_block.new.reader (frame_in c.in_ok-reader.reader c.new_frame-frame.result)
