@@ -1,5 +1,5 @@
 -- Cells that are laid over the frames one after another.
-use Rattle.std.proofs.Common.{◌≡◌, ◌≤◌, ◌<◌, ◌+◌, ◌∙◌, ℕ, List, ◌∷◌, length, drop, take, ◌-◌, sym, ap}
+use Rattle.std.proofs.Common.{◌≡◌, ◌≤◌, ◌+◌, ◌∙◌, ℕ, List, length, drop, take, ◌-◌, sym, ap}
 use Rattle.std.proofs.lemmas.List.{length-map}
 use Rattle.alma_code.specs.declared.cell.Cell.{Cell}
 use Rattle.alma_code.specs.Carries.{frames_with_carry}

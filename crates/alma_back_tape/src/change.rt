@@ -26,6 +26,7 @@ pub struct Entry {
 /// before.
 #[derive(Drop)]
 pub struct Gain {
+    /// Where the entry stands, counted from 0 at the bottom.
     pub at: usize,
     pub places: Vec<(SlotPlace, Cell)>,
     pub had: Vec<Option<Cell>>,

@@ -91,7 +91,7 @@ impl<'a> Earlier<'a> {
         ensures now { self.new.now ≡ self.old.now }
         ensures before { IfOk result (λ _. self.new.before ≡ self.old.before ++ frame.now ∷ []) }
     {
-        self.above.push(frame.copied(alloc)?)?;
+        self.above.push(frame.copy(alloc)?)?;
         Ok(())
     }
 

@@ -87,7 +87,7 @@ pub fn call<H: Head>(
     journal: &mut Journal,
     head: &H,
     routine: u32,
-    ret: u32,
+    back: u32,
     args: &[Cell],
 ) -> Result<(), NoMemory>
     requires tape { IsTape journal.old }
@@ -98,13 +98,13 @@ pub fn call<H: Head>(
     requires cells { live_cells journal.old.frames + (H.head head.now).declared ≤ cell_limit }
     ensures tape { IsTape journal.new }
     ensures now { journal.new.frames ≡ (if is_ok result
-        then journal.old.frames ++ frame_of_call journal.old.frames (H.head head.now) routine ret
+        then journal.old.frames ++ frame_of_call journal.old.frames (H.head head.now) routine back
         args.now ∷ []
         else journal.old.frames) }
     ensures held { (picture_of journal.new).held ≡ (picture_of journal.old).held }
     ensures past { scenes journal.new ≡ scenes journal.old }
 {
-    let frame = frame_from(journal.alloc, &journal.frames, head, routine, ret, args)?;
+    let frame = frame_from(journal.alloc, &journal.frames, head, routine, back, args)?;
     enter(journal, frame)
 }
 

@@ -114,7 +114,7 @@ impl Frame {
     }
 
     /// A copy of the frame.
-    pub fn copied(&self, alloc: Global) -> Result<Frame, NoMemory>
+    pub fn copy(&self, alloc: Global) -> Result<Frame, NoMemory>
         ensures { IfOk result (λ frame. frame ≡ self.now) }
     {
         let kinds = Vec::from_slice(alloc, self.parts.kinds.as_slice())?;

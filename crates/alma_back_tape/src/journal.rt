@@ -28,8 +28,9 @@ pub struct Journal {
     /// What carries gained.
     pub kept: Vec<Gain>,
     pub changes: Vec<Change>,
-    /// How many more entries and notes need no memory.
+    /// How many more entries need no memory.
     pub choice_room: usize,
+    /// How many more notes need no memory.
     pub trail_room: usize,
 }
 

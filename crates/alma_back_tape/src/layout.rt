@@ -48,7 +48,7 @@ pub fn frame_from<H: Head>(
     frames: &Frames,
     head: &H,
     routine: u32,
-    ret: u32,
+    back: u32,
     args: &[Cell],
 ) -> Result<Frame, NoMemory>
     requires head { IsHead (H.head head.now) }
@@ -56,12 +56,12 @@ pub fn frame_from<H: Head>(
     requires args { FitsParams (IsLive frames.now) (λ routine. IsLive frames.now)
         (H.head head.now).params args.now }
     ensures frame { IfOk result (λ frame. frame ≡ frame_of_call frames.now
-        (H.head head.now) routine ret args.now) }
+        (H.head head.now) routine back args.now) }
     ensures whole { IfOk result IsWhole }
 {
     let mut slots = Vec::new(alloc);
-    let mut handed = Vec::new(alloc);
-    put_call(&mut slots, &mut handed, frames, head, args)?;
+    let mut arguments = Vec::new(alloc);
+    put_call(&mut slots, &mut arguments, frames, head, args)?;
     let (kinds, cells) = parts_of(alloc, slots.as_slice())?;
-    Frame::new(alloc, routine, ret, head.declared(), kinds, cells)
+    Frame::new(alloc, routine, back, head.declared(), kinds, cells)
 }

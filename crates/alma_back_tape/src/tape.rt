@@ -129,7 +129,7 @@ impl MachineMemory for Tape {
         &mut self,
         head: &H,
         routine: u32,
-        ret: u32,
+        back: u32,
         args: &[Cell],
     ) -> Result<(), EnterError> {
         if self.journal.frames.len() >= FRAME_LIMIT {
@@ -138,7 +138,7 @@ impl MachineMemory for Tape {
         if head.declared() > CELL_LIMIT - self.journal.frames.declared() {
             return Err(EnterError::CellsFull);
         }
-        match call(&mut self.journal, head, routine, ret, args) {
+        match call(&mut self.journal, head, routine, back, args) {
             Ok(()) => Ok(()),
             Err(NoMemory) => Err(EnterError::Memory),
         }

@@ -40,7 +40,7 @@ pub fn push_numbers(text: &mut Vec<u8>, numbers: &[u32]) -> Result<(), NoMemory>
     Ok(())
 }
 
-/// Appends words, each behind a space.
+// Appends words, each behind a space.
 fn push_words(text: &mut Vec<u8>, words: &[&[u8]]) -> Result<(), NoMemory>
     ensures { OnOk result
         (text.new.items ≡ text.old.items ++ flat_map (λ word. 32 ∷ word.now) words.now) }

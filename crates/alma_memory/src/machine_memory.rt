@@ -79,7 +79,7 @@ pub trait MachineMemory: Drop {
         &mut self,
         head: &H,
         routine: u32,
-        ret: u32,
+        back: u32,
         args: &[Cell],
     ) -> Result<(), EnterError>
         requires head { IsHead (H.head head.now) }
@@ -87,7 +87,7 @@ pub trait MachineMemory: Drop {
             (λ routine. IsLive (picture self.old).now) (H.head head.now).params args.now }
         ensures now { (picture self.new).now ≡ (if is_ok result
             then (picture self.old).now ++ frame_of_call (picture self.old).now
-            (H.head head.now) routine ret args.now ∷ []
+            (H.head head.now) routine back args.now ∷ []
             else (picture self.old).now) }
         ensures held { (picture self.new).held ≡ (picture self.old).held }
         ensures past { (picture self.new).past ≡ (picture self.old).past }
@@ -235,10 +235,10 @@ impl MachineMemory for Memory {
         &mut self,
         head: &H,
         routine: u32,
-        ret: u32,
+        back: u32,
         args: &[Cell],
     ) -> Result<(), EnterError> {
-        Memory::enter(self, head, routine, ret, args)
+        Memory::enter(self, head, routine, back, args)
     }
 
     #[inline(always)]

@@ -214,14 +214,14 @@ impl Memory {
         &mut self,
         head: &H,
         routine: u32,
-        ret: u32,
+        back: u32,
         args: &[Cell],
     ) -> Result<(), EnterError>
         requires head { IsHead (H.head head.now) }
         requires args { FitsParams (IsLive self.old.now) (λ routine. IsLive self.old.now)
             (H.head head.now).params args.now }
         ensures now { self.new.now ≡ (if is_ok result
-            then self.old.now ++ frame_of_call self.old.now (H.head head.now) routine ret args.now
+            then self.old.now ++ frame_of_call self.old.now (H.head head.now) routine back args.now
             ∷ []
             else self.old.now) }
         ensures held { self.new.held ≡ self.old.held }
@@ -234,7 +234,7 @@ impl Memory {
         ensures kept { (f s : ℕ) → IsNoted self.old.noted f s → IsNoted self.new.noted f s }
         ensures call { Makes
             (if is_ok result then Enter (frame_of_call self.old.now
-            (H.head head.now) routine ret args.now) else Nothing)
+            (H.head head.now) routine back args.now) else Nothing)
             self.old self.new }
     {
         if self.store.len() >= FRAME_LIMIT as usize {
@@ -245,7 +245,7 @@ impl Memory {
         }
         let images = &mut self.images;
         if images
-            .enter(&mut self.store, head, routine, ret, args)
+            .enter(&mut self.store, head, routine, back, args)
             .is_err()
         {
             return Err(EnterError::Memory);

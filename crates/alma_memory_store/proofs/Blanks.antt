@@ -1,7 +1,7 @@
 -- Lemmas on the slots that are kept for the next frame.
 use Rattle.std.proofs.Common.{◌≡◌, ℕ, ◌≤◌, ◌<◌, ◌+◌, ◌-◌, List, [], ◌∷◌, ◌++◌, length, map, take, drop, get_or, suc, zero}
-use Rattle.std.proofs.Common.{refl, sym, ap, ◌∙◌, arith}
-use Rattle.std.proofs.lemmas.List.{drop-drop, drop_at, length-map, take_more}
+use Rattle.std.proofs.Common.{sym, ap, ◌∙◌, arith}
+use Rattle.std.proofs.lemmas.List.{drop-drop, length-map, take_more}
 use Rattle.std.specs.Prelude.{Some, slice_get}
 use Rattle.alma_code.specs.declared.cell.Cell.{Cell}
 use Rattle.alma_code.specs.declared.head.Run.{Run}
@@ -54,12 +54,3 @@ pub image-length : (h : PlainHead) (runs : List Run) (slots : List Slot) (w : �
 image-length h runs slots w head e i =
     let all = head-kinds h (kinds_of 0 runs) head (ap (λ rs. kinds_of 0 rs) e) in
     sym (length-map slots (λ (s : Slot). s.kind)) ∙ (ap length i.kinds ∙ all)
-
--- cells in the first slots
-pub laid-image : (runs : List Run) (slots slots' : List Slot) (cells : List Cell) → IsImage runs slots (length cells)
-    → kinds_in slots' ≡ kinds_in slots → cells_in slots' ≡ cells ++ drop (length cells) (cells_in slots)
-    → IsImage runs slots' (length cells)
-laid-image runs slots slots' cells i e f = record {
-  kinds = e ∙ i.kinds;
-  blank = ap (λ v. drop (length cells) v) f ∙ (drop_at cells (drop (length cells) (cells_in slots)) (length cells) refl ∙ i.blank);
-}

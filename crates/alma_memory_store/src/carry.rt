@@ -115,6 +115,7 @@ impl Carry {
         ensures all { IsOk result → vec_len had.new ≡ length changes.now }
         ensures rising { IsRising self.old }
     {
+        // Opens the carry: its invariant is that its slots rise.
         let _ = &self.cells;
         for (place, cell) in changes {
             let old = self.set(*place, *cell)?;

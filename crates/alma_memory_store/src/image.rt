@@ -141,6 +141,7 @@ impl Image {
             ≡ cells.now ++ drop (length cells.now) (blank_cells (H.head head.now))) }
         ensures few { OnOk result (length self.new < 2 ^ 32) }
     {
+        // Brings in that the number of slots is one of 32 bits.
         let _ = head.slots();
         let count = cells.len();
         prepare(&mut self.runs, &mut self.slots, self.written, head, count)?;

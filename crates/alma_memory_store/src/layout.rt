@@ -170,6 +170,7 @@ pub fn push_args<F: LiveFrames, H: Head>(
     ensures { OnOk result (cells.new.items ≡ args_cells (F.live frames.now)
         (H.head head.now).params args.now (length (H.head head.now).params)) }
 {
+    // Brings in that the number of slots is one of 32 bits.
     let _ = head.slots();
     cells.clear();
     for i in 0..head.param_count() {

@@ -25,9 +25,12 @@ use std::marker::Model;
 pub struct Past<'a> {
     slots: &'a Rewind<Slot>,
     regions: &'a Rewind<Region>,
+    // How many regions are live now.
     live: usize,
+    // Where something was written since, what stood there in the top copy.
     old_slots: BTreeMap<usize, Slot>,
     old_regions: BTreeMap<usize, Region>,
+    // How many regions were live in the top copy.
     old_live: usize,
 }
 
@@ -51,7 +54,8 @@ impl<'a> Model for Past<'a> {
     ghost invariant = { IsPast };
 }
 
-// The last live region that begins at or below a place.
+// The last live region that begins at or below a place, by halving. The contract alone needs the
+// `limit` below which all live regions stand.
 fn find(regions: &Rewind<Region>, live: usize, at: usize, limit: usize) -> usize
     requires some { 1 ≤ live }
     requires live { live ≤ length regions.now.now }
@@ -233,6 +237,7 @@ impl<'a> Past<'a> {
         ensures { IfOk result (λ found. SameGain (carry_of_entries found.items)
             (diffs self.now.before self.now.now)) }
     {
+        // Opens the value: its invariant says that the fields speak of the top copy.
         let _ = &self.live;
         let mut found = Vec::new(alloc);
         self.push_written(&mut found)?;

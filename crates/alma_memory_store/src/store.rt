@@ -44,9 +44,11 @@ pub struct Region {
 pub struct Store {
     slots: Rewind<Slot>,
     regions: Rewind<Region>,
+    // How many regions are live, from the bottom.
     live: usize,
     // The last live region.
     top: Region,
+    // How many regions were live in each copy.
     lives: Vec<usize>,
 }
 
@@ -74,7 +76,7 @@ impl Model for Store {
         × (slice_get s.regions.now (s.live - 1) ≡ Some s.top) };
 }
 
-// Where the last live region ends.
+// Where the last live region ends. `limit` only bounds the sum.
 fn end_of_live(regions: &Rewind<Region>, live: usize, limit: usize) -> usize
     requires some { 1 ≤ live }
     requires live { live ≤ length regions.now.now }
@@ -226,6 +228,7 @@ impl Store {
         ensures value { result ≡ length self.now.now }
         ensures live { AreLive self.now.now }
     {
+        // Opens the store: that its frames may be live together follows from its invariant.
         let _ = &self.regions;
         self.live
     }
@@ -301,6 +304,7 @@ impl Store {
         ensures value { result ≡ number_at self.now.now place.frame place.slot }
         ensures whole { AreWhole self.now.now }
     {
+        // Opens the store: frames that are read off its regions are whole.
         let _ = &self.live;
         self.number(place).is_some()
     }

@@ -21,7 +21,6 @@ use Rattle.alma_code.specs.Records.{param_count, run_count, name_count, text_cou
 use Rattle.alma_code.specs.Records.{is_routine_record, is_first_kind, is_first_param, is_first_form, is_first_routine, IsFirst}
 use Rattle.alma_code.proofs.Tables.{end_inside}
 use Rattle.alma_object_format.specs.declared.fault.ObjectFault.TheVariants as fault
-use Rattle.alma_object_format.specs.declared.header.Header.{Header}
 use Rattle.alma_object_format.specs.Bytes.{i64_bytes, u32_at, i64_at}
 use Rattle.alma_object_format.specs.Fault.{unless}
 use Rattle.alma_object.specs.Fields.{FitsFields}
@@ -61,9 +60,6 @@ no_range = record { low = pos 0; high = pos 0 }
 -- ---- what stands at the offsets of an object
 
 module _ (code : PlainCode) (bytes : List ℕ) (object : IsObject code bytes) (fits : FitsFields code) where
-  abbrev the_header : Header
-  the_header = header_for code
-
   stand : SectionsStand code bytes
   stand = sections_stand code bytes object
 

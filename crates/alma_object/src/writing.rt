@@ -8,10 +8,13 @@ ghost use Rattle.alma_object_format.specs.Bytes.{words_bytes};
 ghost use Rattle.alma_object_format.specs.Instrs.{instr_bytes};
 
 use alma_base::{NoMemory, Range};
-use alma_code::{Code, CodeParam, Instr, LATEST_VERSION, Line, ParamKind, RoutineHead, Run, SlotKind};
+use alma_code::{
+    Code, CodeParam, Instr, LATEST_VERSION, Line, ParamKind, RoutineHead, Run, SlotKind,
+};
 use alma_object_format::{push_i64, push_instr, push_words};
 use std::alloc::Global;
 
+// The number of a kind of params, in its record.
 fn param_number(kind: ParamKind) -> u32
     ensures { result ≡ param_number_of kind }
 {
@@ -24,6 +27,7 @@ fn param_number(kind: ParamKind) -> u32
     }
 }
 
+// The number of a kind of slots, in the record of a run.
 fn slot_number(kind: SlotKind) -> u32
     ensures { result ≡ slot_number_of kind }
 {
@@ -35,6 +39,7 @@ fn slot_number(kind: SlotKind) -> u32
     }
 }
 
+// The length of the places of a kind, or the routine of its links; else 0.
 fn slot_size(kind: SlotKind) -> u32
     ensures { result ≡ slot_size_of kind }
 {
@@ -274,7 +279,7 @@ fn push_header(
     Ok(())
 }
 
-// How much the routines have together.
+// How many bytes of names, params and runs the routines have together.
 #[derive(Clone, Copy)]
 struct Totals {
     names: u32,
@@ -282,6 +287,7 @@ struct Totals {
     runs: u32,
 }
 
+// The totals, in one walk over the routines.
 fn count_totals(code: &Code) -> Totals
     requires { KeepsCounts (code_of code.now) }
     ensures names { result.names ≡ sum_by (λ r. length r.name) (code_of code.now).routines }

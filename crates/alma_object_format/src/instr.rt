@@ -1,7 +1,7 @@
 // The record of an instruction: its opcode and four words.
 ghost use Rattle.std.specs.Prelude.{◌≡◌, ◌+◌, ◌≤◌, ◌++◌, ◌∷◌, length, slice_index, OnOk};
 ghost use Rattle.alma_object_format.specs.Bytes.{words_bytes};
-ghost use Rattle.alma_object_format.specs.Instrs.{const_bytes, instr_bytes, is_instr as is_instr_there, instr_at as instr_there, last_opcode};
+ghost use Rattle.alma_object_format.specs.Instrs.{const_bytes, instr_bytes, is_instr as is_instr_there, instr_at as instr_there, last_opcode, record_bytes};
 ghost use Rattle.alma_object_format.specs.Lengths.{instr_len};
 
 use crate::bytes::{i64_at, push_i64, push_words, u32_at};
@@ -23,6 +23,34 @@ fn push_record(out: &mut Vec<u8>, opcode: u8, words: &[u32]) -> Result<(), NoMem
     Ok(())
 }
 
+// A record of no word.
+fn push_none(out: &mut Vec<u8>, opcode: u8) -> Result<(), NoMemory>
+    ensures { OnOk result (out.new.items ≡ out.old.items ++ record_bytes opcode 0 0 0 0) }
+{
+    push_record(out, opcode, &[0, 0, 0, 0])
+}
+
+// A record of one word.
+fn push_one(out: &mut Vec<u8>, opcode: u8, a: u32) -> Result<(), NoMemory>
+    ensures { OnOk result (out.new.items ≡ out.old.items ++ record_bytes opcode a 0 0 0) }
+{
+    push_record(out, opcode, &[a, 0, 0, 0])
+}
+
+// A record of two words.
+fn push_two(out: &mut Vec<u8>, opcode: u8, a: u32, b: u32) -> Result<(), NoMemory>
+    ensures { OnOk result (out.new.items ≡ out.old.items ++ record_bytes opcode a b 0 0) }
+{
+    push_record(out, opcode, &[a, b, 0, 0])
+}
+
+// A record of three words.
+fn push_three(out: &mut Vec<u8>, opcode: u8, a: u32, b: u32, c: u32) -> Result<(), NoMemory>
+    ensures { OnOk result (out.new.items ≡ out.old.items ++ record_bytes opcode a b c 0) }
+{
+    push_record(out, opcode, &[a, b, c, 0])
+}
+
 // A Const and its value, which takes two words.
 fn push_const(out: &mut Vec<u8>, to: u32, value: i64) -> Result<(), NoMemory>
     ensures { OnOk result (out.new.items ≡ out.old.items ++ const_bytes to value) }
@@ -41,76 +69,76 @@ pub fn push_instr(out: &mut Vec<u8>, instr: Instr) -> Result<(), NoMemory>
 {
     match instr {
         Instr::Const { to, value } => push_const(out, to, value),
-        Instr::Move { to, from } => push_record(out, 2, &[to, from, 0, 0]),
-        Instr::Add { to, left, right } => push_record(out, 3, &[to, left, right, 0]),
-        Instr::Sub { to, left, right } => push_record(out, 4, &[to, left, right, 0]),
-        Instr::Mul { to, left, right } => push_record(out, 5, &[to, left, right, 0]),
-        Instr::Div { to, left, right } => push_record(out, 6, &[to, left, right, 0]),
-        Instr::Mod { to, left, right } => push_record(out, 7, &[to, left, right, 0]),
-        Instr::Neg { to, from } => push_record(out, 8, &[to, from, 0, 0]),
-        Instr::Equal { to, left, right } => push_record(out, 9, &[to, left, right, 0]),
-        Instr::Less { to, left, right } => push_record(out, 10, &[to, left, right, 0]),
-        Instr::LessEq { to, left, right } => push_record(out, 11, &[to, left, right, 0]),
-        Instr::Flip { to, from } => push_record(out, 12, &[to, from, 0, 0]),
-        Instr::InRange { value, range } => push_record(out, 13, &[value, range, 0, 0]),
-        Instr::Local { to, first } => push_record(out, 14, &[to, first, 0, 0]),
-        Instr::Global { to, first } => push_record(out, 15, &[to, first, 0, 0]),
-        Instr::Same { to, from } => push_record(out, 16, &[to, from, 0, 0]),
-        Instr::Field { to, from, offset } => push_record(out, 17, &[to, from, offset, 0]),
+        Instr::Move { to, from } => push_two(out, 2, to, from),
+        Instr::Add { to, left, right } => push_three(out, 3, to, left, right),
+        Instr::Sub { to, left, right } => push_three(out, 4, to, left, right),
+        Instr::Mul { to, left, right } => push_three(out, 5, to, left, right),
+        Instr::Div { to, left, right } => push_three(out, 6, to, left, right),
+        Instr::Mod { to, left, right } => push_three(out, 7, to, left, right),
+        Instr::Neg { to, from } => push_two(out, 8, to, from),
+        Instr::Equal { to, left, right } => push_three(out, 9, to, left, right),
+        Instr::Less { to, left, right } => push_three(out, 10, to, left, right),
+        Instr::LessEq { to, left, right } => push_three(out, 11, to, left, right),
+        Instr::Flip { to, from } => push_two(out, 12, to, from),
+        Instr::InRange { value, range } => push_two(out, 13, value, range),
+        Instr::Local { to, first } => push_two(out, 14, to, first),
+        Instr::Global { to, first } => push_two(out, 15, to, first),
+        Instr::Same { to, from } => push_two(out, 16, to, from),
+        Instr::Field { to, from, offset } => push_three(out, 17, to, from, offset),
         Instr::Index {
             to,
             from,
             index,
             range,
         } => push_record(out, 18, &[to, from, index, range]),
-        Instr::Load { to, from } => push_record(out, 19, &[to, from, 0, 0]),
-        Instr::Store { to, from } => push_record(out, 20, &[to, from, 0, 0]),
-        Instr::Known { to, of } => push_record(out, 21, &[to, of, 0, 0]),
+        Instr::Load { to, from } => push_two(out, 19, to, from),
+        Instr::Store { to, from } => push_two(out, 20, to, from),
+        Instr::Known { to, of } => push_two(out, 21, to, of),
         Instr::Bind {
             place,
             value,
             range,
-        } => push_record(out, 22, &[place, value, range, 0]),
+        } => push_three(out, 22, place, value, range),
         Instr::Unify {
             left,
             left_range,
             right,
             right_range,
         } => push_record(out, 23, &[left, left_range, right, right_range]),
-        Instr::CopyCells { to, from } => push_record(out, 24, &[to, from, 0, 0]),
-        Instr::SameCells { left, right } => push_record(out, 25, &[left, right, 0, 0]),
-        Instr::Jump { to } => push_record(out, 26, &[to, 0, 0, 0]),
-        Instr::JumpZero { value, to } => push_record(out, 27, &[value, to, 0, 0]),
-        Instr::Check { value } => push_record(out, 28, &[value, 0, 0, 0]),
-        Instr::Fail => push_record(out, 29, &[0, 0, 0, 0]),
-        Instr::Mark { to } => push_record(out, 30, &[to, 0, 0, 0]),
-        Instr::Cut { mark } => push_record(out, 31, &[mark, 0, 0, 0]),
-        Instr::Choose { resume } => push_record(out, 32, &[resume, 0, 0, 0]),
-        Instr::Forall { mark, resume } => push_record(out, 33, &[mark, resume, 0, 0]),
-        Instr::Overlay { mark, resume } => push_record(out, 34, &[mark, resume, 0, 0]),
-        Instr::Keep { mark } => push_record(out, 35, &[mark, 0, 0, 0]),
-        Instr::Finish => push_record(out, 36, &[0, 0, 0, 0]),
-        Instr::Call { routine, first, to } => push_record(out, 37, &[routine, first, to, 0]),
-        Instr::Return => push_record(out, 38, &[0, 0, 0, 0]),
-        Instr::ReturnValue { value } => push_record(out, 39, &[value, 0, 0, 0]),
-        Instr::ReadInt { place, range } => push_record(out, 40, &[place, range, 0, 0]),
-        Instr::ReadChar { place, range } => push_record(out, 41, &[place, range, 0, 0]),
-        Instr::WriteInt { value } => push_record(out, 42, &[value, 0, 0, 0]),
-        Instr::WriteChar { value } => push_record(out, 43, &[value, 0, 0, 0]),
-        Instr::WriteBool { value } => push_record(out, 44, &[value, 0, 0, 0]),
-        Instr::WriteText { text } => push_record(out, 45, &[text, 0, 0, 0]),
-        Instr::WriteLine => push_record(out, 46, &[0, 0, 0, 0]),
-        Instr::Fault { number } => push_record(out, 47, &[number, 0, 0, 0]),
+        Instr::CopyCells { to, from } => push_two(out, 24, to, from),
+        Instr::SameCells { left, right } => push_two(out, 25, left, right),
+        Instr::Jump { to } => push_one(out, 26, to),
+        Instr::JumpZero { value, to } => push_two(out, 27, value, to),
+        Instr::Check { value } => push_one(out, 28, value),
+        Instr::Fail => push_none(out, 29),
+        Instr::Mark { to } => push_one(out, 30, to),
+        Instr::Cut { mark } => push_one(out, 31, mark),
+        Instr::Choose { resume } => push_one(out, 32, resume),
+        Instr::Forall { mark, resume } => push_two(out, 33, mark, resume),
+        Instr::Overlay { mark, resume } => push_two(out, 34, mark, resume),
+        Instr::Keep { mark } => push_one(out, 35, mark),
+        Instr::Finish => push_none(out, 36),
+        Instr::Call { routine, first, to } => push_three(out, 37, routine, first, to),
+        Instr::Return => push_none(out, 38),
+        Instr::ReturnValue { value } => push_one(out, 39, value),
+        Instr::ReadInt { place, range } => push_two(out, 40, place, range),
+        Instr::ReadChar { place, range } => push_two(out, 41, place, range),
+        Instr::WriteInt { value } => push_one(out, 42, value),
+        Instr::WriteChar { value } => push_one(out, 43, value),
+        Instr::WriteBool { value } => push_one(out, 44, value),
+        Instr::WriteText { text } => push_one(out, 45, text),
+        Instr::WriteLine => push_none(out, 46),
+        Instr::Fault { number } => push_one(out, 47, number),
         Instr::Step {
             counter,
             limit,
             by,
             out: past,
         } => push_record(out, 48, &[counter, limit, by, past]),
-        Instr::Own { to } => push_record(out, 49, &[to, 0, 0, 0]),
-        Instr::Chain { to, link, slot } => push_record(out, 50, &[to, link, slot, 0]),
-        Instr::Outer { to, link, first } => push_record(out, 51, &[to, link, first, 0]),
-        Instr::OuterSame { to, link, slot } => push_record(out, 52, &[to, link, slot, 0]),
+        Instr::Own { to } => push_one(out, 49, to),
+        Instr::Chain { to, link, slot } => push_three(out, 50, to, link, slot),
+        Instr::Outer { to, link, first } => push_three(out, 51, to, link, first),
+        Instr::OuterSame { to, link, slot } => push_three(out, 52, to, link, slot),
     }
 }
 

@@ -7,6 +7,7 @@ use crate::bytes::{i64_at, u32_at};
 use alma_base::Range;
 use alma_code::{CodeParam, Line, ParamKind, Run, SlotKind};
 
+// The kind of a param by its number.
 #[tactic(auto, using(std::proofs::lemmas::List::get_or_past))]
 fn param_kind(number: u32) -> ParamKind
     ensures { result ≡ param_kind_of number }
@@ -20,6 +21,7 @@ fn param_kind(number: u32) -> ParamKind
     }
 }
 
+// The kind of a run by its number, with its length or routine.
 #[tactic(auto, using(std::proofs::lemmas::List::get_or_past))]
 fn slot_kind(number: u32, size: u32) -> SlotKind
     ensures { result ≡ slot_kind_of number size }

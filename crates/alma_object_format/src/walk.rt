@@ -148,12 +148,14 @@ pub fn name_start(bytes: &[u8], header: &Header, name: u32) -> u32
     }
 }
 
+// Whether an end is not below its start nor above the count; the last one is the count.
 fn is_end(start: u32, end: u32, count: u32, last: bool) -> bool
     ensures { result ≡ is_end_of start end count last }
 {
     start <= end && end <= count && (!last || end == count)
 }
 
+// The same of the end of a name, which has at least one byte.
 fn is_name_end(start: u32, end: u32, count: u32, last: bool) -> bool
     ensures { result ≡ is_name_end_of start end count last }
 {
@@ -162,7 +164,7 @@ fn is_name_end(start: u32, end: u32, count: u32, last: bool) -> bool
 
 // ---- routines
 
-// Of the record of a routine.
+// The first fault of the record of a routine.
 #[tactic(auto, unfolding(crate::specs::Walk::routine_fault))]
 fn routine_fault(bytes: &[u8], header: &Header, routine: u32) -> Option<ObjectFault>
     requires routine { routine < header.now.routines }
@@ -216,7 +218,7 @@ fn routine_fault(bytes: &[u8], header: &Header, routine: u32) -> Option<ObjectFa
     None
 }
 
-/// Of the routines.
+// The first fault of the routines.
 #[tactic(auto, using(crate::proofs::Faults::fault_steps))]
 fn routines_fault(bytes: &[u8], header: &Header) -> Option<ObjectFault>
     requires { routines_at header.now ≤ length bytes.now }
@@ -233,7 +235,7 @@ fn routines_fault(bytes: &[u8], header: &Header) -> Option<ObjectFault>
 
 // ---- globals
 
-// Of the record of a global.
+// The first fault of the record of a global.
 #[tactic(auto, unfolding(crate::specs::Walk::global_fault))]
 fn global_fault(bytes: &[u8], header: &Header, global: u32) -> Option<ObjectFault>
     requires within { IsWithin header.now }
@@ -260,7 +262,7 @@ fn global_fault(bytes: &[u8], header: &Header, global: u32) -> Option<ObjectFaul
     None
 }
 
-/// Of the globals.
+// The first fault of the globals.
 #[tactic(auto, using(crate::proofs::Faults::fault_steps))]
 fn globals_fault(bytes: &[u8], header: &Header) -> Option<ObjectFault>
     requires within { IsWithin header.now }
@@ -292,7 +294,7 @@ fn last_param_kind(version: u16) -> u32
     if version == LATEST_VERSION { 4 } else { 3 }
 }
 
-// Of the record of a param.
+// The first fault of the record of a param.
 #[tactic(auto, unfolding(crate::specs::Walk::param_fault))]
 fn param_fault(bytes: &[u8], header: &Header, param: u32) -> Option<ObjectFault>
     ensures fault { result ≡ param_fault_of bytes.now header.now param }
@@ -313,7 +315,7 @@ fn param_fault(bytes: &[u8], header: &Header, param: u32) -> Option<ObjectFault>
     None
 }
 
-/// Of the params.
+// The first fault of the params.
 #[tactic(auto, using(crate::proofs::Faults::fault_steps))]
 fn params_fault(bytes: &[u8], header: &Header) -> Option<ObjectFault>
     requires { params_at header.now ≤ length bytes.now }
@@ -344,7 +346,7 @@ fn last_run_kind(version: u16) -> u32
     if version == LATEST_VERSION { 3 } else { 2 }
 }
 
-// Of the record of a run.
+// The first fault of the record of a run.
 #[tactic(auto, unfolding(crate::specs::Walk::run_fault))]
 fn run_fault(bytes: &[u8], header: &Header, first: bool, run: u32) -> Option<ObjectFault>
     ensures fault { result ≡ run_fault_of bytes.now header.now first run }
@@ -373,7 +375,7 @@ fn run_fault(bytes: &[u8], header: &Header, first: bool, run: u32) -> Option<Obj
     None
 }
 
-// Of the runs of a routine.
+// The first fault of the runs of a routine.
 #[tactic(auto, unfolding(crate::specs::Walk::routine_runs_fault), using(crate::proofs::Faults::fault_steps))]
 fn routine_runs_fault(bytes: &[u8], header: &Header, routine: u32) -> Option<ObjectFault>
     requires table { routines_at header.now + routine_len * routine + routine_len
@@ -394,7 +396,7 @@ fn routine_runs_fault(bytes: &[u8], header: &Header, routine: u32) -> Option<Obj
     None
 }
 
-/// Of the runs.
+// The first fault of the runs.
 #[tactic(auto, using(crate::proofs::Faults::fault_steps, crate::proofs::Starts::next_starts))]
 fn runs_fault(bytes: &[u8], header: &Header) -> Option<ObjectFault>
     requires table { globals_at header.now ≤ length bytes.now }
@@ -413,7 +415,7 @@ fn runs_fault(bytes: &[u8], header: &Header) -> Option<ObjectFault>
 
 // ---- ranges
 
-// Of the record of a range.
+// The first fault of the record of a range.
 #[tactic(auto, unfolding(crate::specs::Walk::range_fault))]
 fn range_fault(bytes: &[u8], header: &Header, range: u32) -> Option<ObjectFault>
     ensures fault { result ≡ range_fault_of bytes.now header.now range }
@@ -430,7 +432,7 @@ fn range_fault(bytes: &[u8], header: &Header, range: u32) -> Option<ObjectFault>
     None
 }
 
-/// Of the ranges.
+// The first fault of the ranges.
 #[tactic(auto, using(crate::proofs::Faults::fault_steps))]
 fn ranges_fault(bytes: &[u8], header: &Header) -> Option<ObjectFault>
     requires { ranges_at header.now ≤ length bytes.now }
@@ -447,7 +449,7 @@ fn ranges_fault(bytes: &[u8], header: &Header) -> Option<ObjectFault>
 
 // ---- texts
 
-// Of the record of a text.
+// The first fault of the record of a text.
 #[tactic(auto, unfolding(crate::specs::Walk::text_fault))]
 fn text_fault(bytes: &[u8], header: &Header, text: u32) -> Option<ObjectFault>
     requires text { text < header.now.texts }
@@ -472,7 +474,7 @@ fn text_fault(bytes: &[u8], header: &Header, text: u32) -> Option<ObjectFault>
     None
 }
 
-/// Of the texts.
+// The first fault of the texts.
 #[tactic(auto, using(crate::proofs::Faults::fault_steps))]
 fn texts_fault(bytes: &[u8], header: &Header) -> Option<ObjectFault>
     requires { texts_at header.now ≤ length bytes.now }
@@ -489,13 +491,14 @@ fn texts_fault(bytes: &[u8], header: &Header) -> Option<ObjectFault>
 
 // ---- the pools
 
+// Whether a byte can stand in a name: a letter or `_`, and a digit where it is not the first one.
 fn can_stand(first: bool, byte: u8) -> bool
     ensures { result ≡ can_stand_of first byte }
 {
     byte.is_ascii_alphabetic() || byte == b'_' || (!first && byte.is_ascii_digit())
 }
 
-// Of the bytes of a name.
+// The first fault of the bytes of a name.
 #[tactic(auto, unfolding(crate::specs::Walk::name_fault), using(crate::proofs::Faults::fault_steps))]
 fn name_fault(bytes: &[u8], header: &Header, name: u32) -> Option<ObjectFault>
     requires routine { name < header.now.routines → routines_at header.now + routine_len * name
@@ -516,7 +519,7 @@ fn name_fault(bytes: &[u8], header: &Header, name: u32) -> Option<ObjectFault>
     None
 }
 
-// Of the bytes of the names.
+// The first fault of the bytes of the names.
 #[tactic(auto, using(crate::proofs::Faults::fault_steps))]
 fn names_fault(bytes: &[u8], header: &Header) -> Option<ObjectFault>
     requires within { IsWithin header.now }
@@ -534,7 +537,7 @@ fn names_fault(bytes: &[u8], header: &Header) -> Option<ObjectFault>
     None
 }
 
-/// Of the name bytes and of the text bytes.
+// The first fault of the name bytes and of the text bytes.
 fn pools_fault(bytes: &[u8], header: &Header) -> Option<ObjectFault>
     requires within { IsWithin header.now }
     requires ends { (name : ℕ) → name < name_count_of bytes.now header.now
@@ -556,7 +559,7 @@ fn pools_fault(bytes: &[u8], header: &Header) -> Option<ObjectFault>
 
 // ---- the code
 
-// Of the record of an instruction.
+// The first fault of the record of an instruction.
 #[tactic(auto, unfolding(crate::specs::Walk::instr_fault))]
 fn instr_fault(bytes: &[u8], header: &Header, instr: u32) -> Option<ObjectFault>
     ensures fault { result ≡ instr_fault_of bytes.now header.now instr }
@@ -573,7 +576,7 @@ fn instr_fault(bytes: &[u8], header: &Header, instr: u32) -> Option<ObjectFault>
     None
 }
 
-/// Of the code.
+// The first fault of the code.
 #[tactic(auto, using(crate::proofs::Faults::fault_steps))]
 fn instrs_fault(bytes: &[u8], header: &Header) -> Option<ObjectFault>
     requires { instrs_at header.now ≤ length bytes.now }
@@ -590,7 +593,7 @@ fn instrs_fault(bytes: &[u8], header: &Header) -> Option<ObjectFault>
 
 // ---- lines
 
-// Of the record of a line.
+// The first fault of the record of a line.
 #[tactic(auto, unfolding(crate::specs::Walk::line_fault))]
 fn line_fault(bytes: &[u8], header: &Header, line: u32) -> Option<ObjectFault>
     ensures fault { result ≡ line_fault_of bytes.now header.now line }
@@ -609,7 +612,7 @@ fn line_fault(bytes: &[u8], header: &Header, line: u32) -> Option<ObjectFault>
     None
 }
 
-/// Of the lines.
+// The first fault of the lines.
 #[tactic(auto, using(crate::proofs::Faults::fault_steps))]
 fn lines_fault(bytes: &[u8], header: &Header) -> Option<ObjectFault>
     requires { lines_at header.now ≤ length bytes.now }
@@ -626,7 +629,7 @@ fn lines_fault(bytes: &[u8], header: &Header) -> Option<ObjectFault>
 
 // ---- the sections in order
 
-/// Of the sections behind the header.
+/// The first fault of the sections behind the header.
 #[tactic(auto, unfolding(crate::specs::Walk::sections_fault))]
 pub fn sections_fault(bytes: &[u8], header: &Header) -> Option<ObjectFault>
     requires within { IsWithin header.now }

@@ -13,10 +13,10 @@ use crate::slots::{are_cells, are_numbers, kind_of, start_of};
 use alma_base::{CELL_LIMIT, SLOT_LIMIT};
 use alma_code::{CodeParam, ParamKind, SlotKind};
 
-/// The part of rule 1 on globals: the cells of each are number slots of routine 0, from slot 1 on.
-/// A global of no cells may stand anywhere.
+// The part of rule 1 on globals: the cells of each are number slots of routine 0, from slot 1 on.
+// A global of no cells may stand anywhere.
 #[tactic(auto, using(std::proofs::lemmas::List::Folds::list_all_more, std::proofs::lemmas::List::Folds::list_all_at))]
-pub fn are_globals<R: CodeReader>(reader: &R) -> bool
+fn are_globals<R: CodeReader>(reader: &R) -> bool
     requires table { IsTable (R.code reader.now) }
     ensures { result ≡ list_all (is_global (R.code reader.now)) (R.code reader.now).globals }
 {
@@ -28,10 +28,10 @@ pub fn are_globals<R: CodeReader>(reader: &R) -> bool
     true
 }
 
-/// The part of rule 1 on routine 0: no parameters, no result, and its globals are number slots.
-/// Each other routine passes.
+// The part of rule 1 on routine 0: no parameters, no result, and its globals are number slots.
+// Each other routine passes.
 #[tactic(auto, using(crate::proofs::Starts::mains))]
-pub fn is_main<R: CodeReader>(reader: &R, routine: u32) -> bool
+fn is_main<R: CodeReader>(reader: &R, routine: u32) -> bool
     requires { HasRoutine (R.code reader.now) routine }
     ensures { result ≡ is_main_spec (R.code reader.now) routine }
 {
@@ -49,10 +49,10 @@ pub fn rule_1<R: CodeReader>(reader: &R, routine: u32) -> bool
     start_of(reader, routine) < reader.code_end(routine) && is_main(reader, routine)
 }
 
-/// Where the last run of a routine ends, or 0 without a run. Rule 2 asks that this is the number of
-/// slots.
+// Where the last run of a routine ends, or 0 without a run. Rule 2 asks that this is the number of
+// slots.
 #[tactic(auto, using(crate::proofs::Starts::lasts))]
-pub fn end_of_runs<R: CodeReader>(reader: &R, routine: u32) -> u32
+fn end_of_runs<R: CodeReader>(reader: &R, routine: u32) -> u32
     requires routine { routine < length (R.code reader.now).routines }
     ensures { result ≡ last_end 0 (head_at (R.code reader.now) routine).runs }
 {
@@ -64,8 +64,8 @@ pub fn end_of_runs<R: CodeReader>(reader: &R, routine: u32) -> u32
     }
 }
 
-/// Whether a run of links names a routine from 1 on.
-pub fn names_routine<R: CodeReader>(reader: &R, kind: SlotKind) -> bool
+// Whether a run of links names a routine from 1 on.
+fn names_routine<R: CodeReader>(reader: &R, kind: SlotKind) -> bool
     ensures { result ≡ names_routine_spec (R.code reader.now) kind }
 {
     match kind {
@@ -74,8 +74,8 @@ pub fn names_routine<R: CodeReader>(reader: &R, kind: SlotKind) -> bool
     }
 }
 
-/// The part of rule 2 on links: each run of links names a routine from 1 to the last.
-pub fn name_routines<R: CodeReader>(reader: &R, routine: u32) -> bool
+// The part of rule 2 on links: each run of links names a routine from 1 to the last.
+fn name_routines<R: CodeReader>(reader: &R, routine: u32) -> bool
     requires routine { routine < length (R.code reader.now).routines }
     ensures { result ≡ list_all (λ run. names_routine_spec (R.code reader.now) run.kind)
         (head_at (R.code reader.now) routine).runs }
@@ -104,10 +104,10 @@ pub fn rule_2<R: CodeReader>(reader: &R, routine: u32) -> bool
         && declared <= CELL_LIMIT
 }
 
-/// Whether the slots from `slot` on are those of the parameter: a place and a number slot for Mix,
-/// a number slot for each cell of Cells, and one slot for the other kinds.
+// Whether the slots from `slot` on are those of the parameter: a place and a number slot for Mix,
+// a number slot for each cell of Cells, and one slot for the other kinds.
 #[tactic(auto, using(crate::proofs::Starts::nexts))]
-pub fn holds_param<R: CodeReader>(reader: &R, routine: u32, param: CodeParam, slot: u64) -> bool
+fn holds_param<R: CodeReader>(reader: &R, routine: u32, param: CodeParam, slot: u64) -> bool
     requires routine { HasRoutine (R.code reader.now) routine }
     requires slot { slot < 2 ^ 62 }
     ensures { result ≡ holds_param_spec (kinds_at (R.code reader.now) routine) param.kind
@@ -125,9 +125,9 @@ pub fn holds_param<R: CodeReader>(reader: &R, routine: u32, param: CodeParam, sl
     }
 }
 
-/// The part of rule 3 on parameters: the first slots of the routine are theirs, in order.
+// The part of rule 3 on parameters: the first slots of the routine are theirs, in order.
 #[tactic(auto, using(crate::proofs::Starts::param_steps))]
-pub fn are_params<R: CodeReader>(reader: &R, routine: u32) -> bool
+fn are_params<R: CodeReader>(reader: &R, routine: u32) -> bool
     requires routine { HasRoutine (R.code reader.now) routine }
     requires few { length (head_at (R.code reader.now) routine).params ≤ record_limit }
     ensures { result ≡ hold_params (kinds_at (R.code reader.now) routine)
@@ -144,10 +144,10 @@ pub fn are_params<R: CodeReader>(reader: &R, routine: u32) -> bool
     true
 }
 
-/// The part of rule 3 on the input position: slot 0 of routine 0 is a number slot. Each other
-/// routine passes.
+// The part of rule 3 on the input position: slot 0 of routine 0 is a number slot. Each other
+// routine passes.
 #[tactic(auto, using(crate::proofs::Starts::mains))]
-pub fn has_position<R: CodeReader>(reader: &R, routine: u32) -> bool
+fn has_position<R: CodeReader>(reader: &R, routine: u32) -> bool
     requires { HasRoutine (R.code reader.now) routine }
     ensures { result ≡ has_position_spec (R.code reader.now) routine }
 {

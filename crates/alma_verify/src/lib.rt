@@ -22,5 +22,4 @@ mod words;
 pub use alma_code::VerifyFault;
 pub use fields::fits_fields;
 pub use opening::{open_encoded, open_object};
-pub use slots::kind_of;
 pub use verified::{Verified, verify};

@@ -13,9 +13,9 @@ use crate::slots::{
 use crate::words::words_of;
 use alma_code::{Instr, NO_CASE, NO_RETURN, Word};
 
-/// Rule 4 for one word: a slot word names a slot of the kind that the form states, and not the
-/// input position. All other words pass.
-pub fn names_slot<R: CodeReader>(reader: &R, routine: u32, word: Word) -> bool
+// Rule 4 for one word: a slot word names a slot of the kind that the form states, and not the
+// input position. All other words pass.
+fn names_slot<R: CodeReader>(reader: &R, routine: u32, word: Word) -> bool
     requires { HasRoutine (R.code reader.now) routine }
     ensures { result ≡ names_slot_spec (R.code reader.now) routine word }
 {
@@ -84,8 +84,8 @@ pub fn rule_7<R: CodeReader>(reader: &R, routine: u32, instr: Instr) -> bool
     }
 }
 
-/// Rule 8 for one word: a range word or a text word is below its count. All other words pass.
-pub fn names_entry<R: CodeReader>(reader: &R, word: Word) -> bool
+// Rule 8 for one word: a range word or a text word is below its count. All other words pass.
+fn names_entry<R: CodeReader>(reader: &R, word: Word) -> bool
     ensures { result ≡ names_entry_spec (R.code reader.now) word }
 {
     match word {
@@ -165,16 +165,16 @@ pub fn rule_5<R: CodeReader>(reader: &R, routine: u32, instr: Instr) -> bool
     }
 }
 
-/// Whether the address is that of an instruction of this routine.
-pub fn is_address<R: CodeReader>(reader: &R, routine: u32, at: u32) -> bool
+// Whether the address is that of an instruction of this routine.
+fn is_address<R: CodeReader>(reader: &R, routine: u32, at: u32) -> bool
     requires { routine < length (R.code reader.now).routines }
     ensures { result ≡ is_address_spec (R.code reader.now) routine at }
 {
     start_of(reader, routine) <= at && at < reader.code_end(routine)
 }
 
-/// Rule 9 for one word: an address word is an address of this routine. All other words pass.
-pub fn names_address<R: CodeReader>(reader: &R, routine: u32, word: Word) -> bool
+// Rule 9 for one word: an address word is an address of this routine. All other words pass.
+fn names_address<R: CodeReader>(reader: &R, routine: u32, word: Word) -> bool
     requires { routine < length (R.code reader.now).routines }
     ensures { result ≡ names_address_spec (R.code reader.now) routine word }
 {
@@ -214,9 +214,9 @@ pub fn rule_11<R: CodeReader>(reader: &R, routine: u32, at: u32, instr: Instr) -
     u64::from(at) + 1 < u64::from(reader.code_end(routine)) || instr.ends_routine()
 }
 
-/// The part of rule 10 on the result of a call: where the callee `gives` one, `to` is a number slot
-/// that is not the input position; else `to` is 0.
-pub fn has_place_for_result<R: CodeReader>(reader: &R, routine: u32, gives: bool, to: u32) -> bool
+// The part of rule 10 on the result of a call: where the callee `gives` one, `to` is a number slot
+// that is not the input position; else `to` is 0.
+fn has_place_for_result<R: CodeReader>(reader: &R, routine: u32, gives: bool, to: u32) -> bool
     requires { HasRoutine (R.code reader.now) routine }
     ensures { result ≡ holds_result_spec (R.code reader.now) routine gives to }
 {
@@ -260,8 +260,8 @@ pub fn rule_10<R: CodeReader>(
     }
 }
 
-/// Whether as many elements as a range has numbers fit into an array.
-pub fn has_room<R: CodeReader>(reader: &R, range: u32, each: u32, all: u32) -> bool
+// Whether as many elements as a range has numbers fit into an array.
+fn has_room<R: CodeReader>(reader: &R, range: u32, each: u32, all: u32) -> bool
     ensures { result ≡ has_room_spec (slice_get (R.code reader.now).ranges range) each all }
 {
     match reader.range(range) {

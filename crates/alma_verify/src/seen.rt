@@ -18,7 +18,10 @@ pub struct SeenCall {
 }
 
 // So many arguments are sooner looked at than compared.
-const FEW: u32 = 64;
+const FEW_ARGUMENTS: u32 = 64;
+
+// How many calls each of the two tables remembers.
+const SEEN_LIMIT: usize = 256;
 
 const NO_CALL: SeenCall = SeenCall {
     caller: 0,
@@ -32,8 +35,8 @@ const NO_CALL: SeenCall = SeenCall {
 /// with it. No memory is asked for.
 #[derive(Drop)]
 pub struct SeenCalls {
-    calls: [SeenCall; 256],
-    latest: [SeenCall; 256],
+    calls: [SeenCall; SEEN_LIMIT],
+    latest: [SeenCall; SEEN_LIMIT],
 }
 
 // Whether this is the call.
@@ -45,16 +48,16 @@ fn is_same(seen: SeenCall, caller: u32, callee: u32, first: u32) -> bool
 
 // Where a call is remembered.
 fn place_of(call: SeenCall) -> usize
-    ensures { result < 256 }
+    ensures { result < SEEN_LIMIT }
 {
-    ((u64::from(call.callee) + u64::from(call.first)) % 256) as usize
+    (call.callee as usize + call.first as usize) % SEEN_LIMIT
 }
 
 // Where the last call of a routine is remembered.
 fn latest_place(callee: u32) -> usize
-    ensures { result < 256 }
+    ensures { result < SEEN_LIMIT }
 {
-    (callee % 256) as usize
+    callee as usize % SEEN_LIMIT
 }
 
 impl SeenCalls {
@@ -63,8 +66,8 @@ impl SeenCalls {
         ensures { (code : PlainCode) → AreFit code result }
     {
         SeenCalls {
-            calls: [NO_CALL; 256],
-            latest: [NO_CALL; 256],
+            calls: [NO_CALL; SEEN_LIMIT],
+            latest: [NO_CALL; SEEN_LIMIT],
         }
     }
 
@@ -92,7 +95,7 @@ impl SeenCalls {
     {
         let latest = self.latest[latest_place(call.callee)];
         let count = reader.param_count(call.callee);
-        if latest.callee != call.callee || count <= FEW {
+        if latest.callee != call.callee || count <= FEW_ARGUMENTS {
             return false;
         }
         is_free(call.caller, call.first, 0) && are_alike(reader, latest, call, count)

@@ -15,9 +15,9 @@ use crate::seen::SeenCalls;
 use crate::slots::start_of;
 use alma_code::VerifyFault;
 
-/// The least broken rule of the instruction at an address of a routine.
+// The least broken rule of the instruction at an address of a routine.
 #[tactic(auto, unfolding(alma_code::specs::Rules::instr_fault))]
-pub fn instr_fault<R: CodeReader>(
+fn instr_fault<R: CodeReader>(
     reader: &R,
     routine: u32,
     at: u32,
@@ -61,10 +61,10 @@ pub fn instr_fault<R: CodeReader>(
     None
 }
 
-/// The least broken rule, with its address, of the first instruction that breaks one. Only those
-/// from `start` on are looked at, up to `end` and without it.
+// The least broken rule, with its address, of the first instruction that breaks one. Only those
+// from `start` on are looked at, up to `end` and without it.
 #[tactic(auto, using(crate::proofs::Starts::fault_steps))]
-pub fn instrs_fault<R: CodeReader>(
+fn instrs_fault<R: CodeReader>(
     reader: &R,
     routine: u32,
     start: u32,
@@ -86,10 +86,10 @@ pub fn instrs_fault<R: CodeReader>(
     None
 }
 
-/// The first fault of a routine: rules 1 to 3 of its head, reported with its number, and then its
-/// instructions in order, reported with the address.
+// The first fault of a routine: rules 1 to 3 of its head, reported with its number, and then its
+// instructions in order, reported with the address.
 #[tactic(auto, unfolding(alma_code::specs::Rules::routine_fault))]
-pub fn routine_fault<R: CodeReader>(
+fn routine_fault<R: CodeReader>(
     reader: &R,
     routine: u32,
     seen: &mut SeenCalls,
