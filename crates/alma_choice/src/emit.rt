@@ -5,8 +5,7 @@ ghost use Rattle.alma_code.specs.declared.cell.SlotKind.TheVariants as slot;
 ghost use Rattle.alma_lower_templates.specs.LineInstr.{own};
 ghost use Rattle.alma_lower_templates.specs.Pieces as pieces;
 ghost use Rattle.alma_base.specs.Limits.{instr_limit};
-ghost use Rattle.alma_choice.specs.Emitted.{made, with_target, Appends, Aims, ChangesLast, EndsEach, EndsForall, IsAsBefore};
-ghost use Rattle.alma_choice.specs.Emitted.{HasSlotRoom};
+ghost use Rattle.alma_choice.specs.Emitted.{made, with_target, Appends, Aims, ChangesLast, EndsEach, EndsForall, HasSlotRoom, IsAsBefore};
 
 use alma_base::{INSTR_LIMIT, NoMemory, SLOT_LIMIT};
 use alma_code::{Instr, SlotKind};

@@ -16,7 +16,7 @@ use alma_lower_parts::Work;
 use alma_lower_tables::{params_of, runs_of};
 use std::alloc::Global;
 
-/// Begins a routine, behind so many own slots of it.
+/// Begins a routine, behind so many own slots of it. Past the limit of slots this is NoMemory.
 #[tactic(auto, unfolding(alma_lower_work::specs::Front::front))]
 pub fn begin(alloc: Global, work: &mut Work, routine: &Routine, own: usize) -> Result<(), NoMemory>
     ensures { OnOk result (Begins (front work.old) (front work.new) own routine.now.lines.items) }

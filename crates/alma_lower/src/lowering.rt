@@ -19,7 +19,7 @@ use thiserror::Error;
 /// Why a program has no code.
 #[derive(Clone, Copy, Debug, PartialEq, Eq, Error)]
 pub enum LowerError {
-    /// The size of the program, which passes 4,194,304.
+    /// The size of the program, which passes `SIZE_LIMIT`.
     #[error("too much code: {0}")]
     TooMuchCode(u64),
     #[error("no memory")]

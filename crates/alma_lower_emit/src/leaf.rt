@@ -1,4 +1,4 @@
-// What is put below the recursion, behind a part whose result is handed on unopened.
+// What RETURN, READ and WRITE put behind their part, whose result is handed on unopened.
 ghost use Rattle.std.specs.Prelude.{◌∷◌, [], IfOk, IsOk, OnOk};
 ghost use Rattle.alma_code.specs.declared.instr.Instr.TheVariants as instr;
 ghost use Rattle.alma_lower_templates.specs.LineInstr.{own};

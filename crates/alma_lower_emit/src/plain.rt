@@ -1,4 +1,5 @@
-// What is put below the recursion, behind a part whose result is handed on unopened.
+// What expressions, tests, places and arguments put behind a part, whose result is handed on
+// unopened.
 ghost use Rattle.std.specs.Prelude.{◌≡◌, ◌∷◌, [], length, IfOk, IsOk, OnOk};
 ghost use Rattle.alma_code.specs.declared.cell.SlotKind.TheVariants as slot;
 ghost use Rattle.alma_code.specs.declared.instr.Instr.TheVariants as instr;

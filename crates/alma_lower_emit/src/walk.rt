@@ -17,8 +17,8 @@ pub fn emit_stmts(work: &mut Work, scene: &Scene<'_>, body: &[Stmt]) -> Result<(
     emit_nested(work, scene, body, usize::MAX)
 }
 
-/// Statements, in which others are held at most `left` deep; no memory holds more than
-/// `usize::MAX`.
+// Statements, in which others are held at most `left` deep; no memory holds more than
+// `usize::MAX`.
 #[cycle(nest)]
 fn emit_nested(
     work: &mut Work,

@@ -7,7 +7,7 @@ use Rattle.alma_code.specs.declared.instr.Instr.TheVariants as I
 use Rattle.alma_choice.specs.Emitted.{aim_jump}
 use Rattle.alma_ir.specs.declared.phrase.Root.{Root}
 use Rattle.alma_ir.specs.Tree.{Args, Sels}
-use Rattle.alma_lower_work.specs.Front.{Around, Front, Adds, Codes, Takes, Changes, EndsEach, EndsForall}
+use Rattle.alma_lower_work.specs.Front.{Around, Front, Adds, Codes, Takes, Changes, Holes, EndsEach, EndsForall}
 use Rattle.alma_lower_templates.specs.LineInstr.{LineInstr, own}
 use Rattle.alma_lower_templates.specs.Slots.{call_links, handed_slots, held_slots, root_slots, own_root, unless_bare}
 use Rattle.alma_lower_templates.specs.Pieces.{count_from, held_code, truth_code}
@@ -71,6 +71,11 @@ pub record BeginsCall (s : Around) (line called up : ℕ) (a c : Front) (args : 
   pub to_slot : to ≡ b.next
 
 -- ---- of choices
+
+-- a mark slot, and code whose jump at an address is still to be aimed
+abbrev pub BeginsChoice : (a b : Front) → (jump : ℕ) → (code : (mark target : ℕ) → List LineInstr) → Type 0
+BeginsChoice a b jump code =
+    Holes a b (λ to xs. aim_jump xs jump to) (λ none at lo ls. code lo none) (λ ls. slot.Mark ∷ []) (λ ls. ls)
 
 -- the end of the body of FORALL, and that of the whole
 pub record EndsBoth (line mark inner overlay forall : ℕ) (a c : Front) : Type 0 where

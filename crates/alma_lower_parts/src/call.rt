@@ -14,8 +14,8 @@ use alma_code::SlotKind;
 use alma_ir::{Arg, Desig, Sel};
 use alma_lower_work::{Scene, Work, put_links};
 
-/// The link that is handed over to a routine of level 2 or more, and its slot.
-pub fn put_call_link(
+// The link that is handed over to a routine of level 2 or more, and its slot.
+fn put_call_link(
     work: &mut Work,
     scene: &Scene<'_>,
     line: u32,
@@ -74,8 +74,8 @@ fn kind_of(arg: &Arg) -> SlotKind
     }
 }
 
-/// The slots in which the arguments are handed over; the first.
-pub fn take_handed(work: &mut Work, args: &[Arg]) -> Result<u32, NoMemory>
+// The slots in which the arguments are handed over; the first.
+fn take_handed(work: &mut Work, args: &[Arg]) -> Result<u32, NoMemory>
     ensures first { IfOk result (λ first. first ≡ (front work.old).next) }
     ensures puts { OnOk result (Adds (front work.old) (front work.new) (λ at lo ls. [])
         (λ ls. handed_slots (args_list args.now)) (λ ls. ls)) }
@@ -87,9 +87,9 @@ pub fn take_handed(work: &mut Work, args: &[Arg]) -> Result<u32, NoMemory>
     Ok(first)
 }
 
-/// The slot of the first of what is handed over: the link, or the first argument, or 0 where
-/// nothing is.
-pub fn first_handed(link: Option<u32>, args: &[Arg], to: u32) -> u32
+// The slot of the first of what is handed over: the link, or the first argument, or 0 where
+// nothing is.
+fn first_handed(link: Option<u32>, args: &[Arg], to: u32) -> u32
     ensures { result ≡ first_of_call link (args_list args.now) to }
 {
     match link {

@@ -43,8 +43,8 @@ pub fn has_dead(arms: &[CaseArm]) -> bool
     false
 }
 
-/// The two slots for the labels of a CASE.
-pub fn take_labels(work: &mut Work, value: u32) -> Result<Labels, NoMemory>
+// The two slots for the labels of a CASE.
+fn take_labels(work: &mut Work, value: u32) -> Result<Labels, NoMemory>
     ensures value { IfOk result (λ labels. labels.value ≡ value) }
     ensures bound { IfOk result (λ labels. labels.bound ≡ (front work.old).next) }
     ensures test { IfOk result (λ labels. labels.test ≡ labels.bound + 1) }

@@ -1,12 +1,11 @@
 // The pieces of choices.
 ghost use Rattle.std.specs.Prelude.{◌≡◌, ◌∷◌, [], IfOk, IsOk, OnOk};
 ghost use Rattle.alma_code.specs.declared.cell.SlotKind.TheVariants as slot;
-ghost use Rattle.alma_choice.specs.Emitted.{aim_jump};
 ghost use Rattle.alma_code.specs.declared.instr.Instr.TheVariants as instr;
 ghost use Rattle.alma_lower_templates.specs.LineInstr.{own};
 ghost use Rattle.alma_lower_templates.specs.Pieces as pieces;
-ghost use Rattle.alma_lower_work.specs.Front.{front, Holes, EndsEach, EndsForall};
-ghost use Rattle.alma_lower_parts.specs.Steps.{EndsBoth, PutsAimed, PutsSlot};
+ghost use Rattle.alma_lower_work.specs.Front.{front, EndsEach, EndsForall};
+ghost use Rattle.alma_lower_parts.specs.Steps.{BeginsChoice, EndsBoth, PutsAimed, PutsSlot};
 
 use alma_base::NoMemory;
 use alma_code::{Instr, SlotKind};
@@ -17,9 +16,8 @@ use alma_lower_work::Work;
 #[tactic(auto, unfolding(alma_lower_work::specs::Front::front))]
 pub fn begin_first(work: &mut Work, line: u32) -> Result<(u32, u32), NoMemory>
     ensures mark { IfOk result (λ r. r.0 ≡ (front work.old).next) }
-    ensures holes { IfOk result (λ r. Holes (front work.old) (front work.new)
-        (λ to xs. aim_jump xs r.1 to) (λ none at lo ls. pieces.begin_first line lo none)
-        (λ ls. slot.Mark ∷ []) (λ ls. ls)) }
+    ensures holes { IfOk result (λ r. BeginsChoice (front work.old) (front work.new) r.1
+        (λ lo none. pieces.begin_first line lo none)) }
 {
     work.emit.begin_first(line)
 }
@@ -28,42 +26,34 @@ pub fn begin_first(work: &mut Work, line: u32) -> Result<(u32, u32), NoMemory>
 #[tactic(auto, unfolding(alma_lower_work::specs::Front::front))]
 pub fn begin_forall(work: &mut Work, line: u32) -> Result<(u32, u32), NoMemory>
     ensures mark { IfOk result (λ r. r.0 ≡ (front work.old).next) }
-    ensures holes { IfOk result (λ r. Holes (front work.old) (front work.new)
-        (λ to xs. aim_jump xs r.1 to) (λ none at lo ls. pieces.begin_forall line lo none)
-        (λ ls. slot.Mark ∷ []) (λ ls. ls)) }
+    ensures holes { IfOk result (λ r. BeginsChoice (front work.old) (front work.new) r.1
+        (λ lo none. pieces.begin_forall line lo none)) }
 {
     work.emit.begin_forall(line)
 }
 
-/// What goes between the parts of FORALL: the mark of the body, and the overlay that is to be
-/// aimed.
+// What goes between the parts of FORALL: the mark of the body, and the overlay that is to be
+// aimed.
 #[tactic(auto, unfolding(alma_lower_work::specs::Front::front))]
-pub fn begin_each(work: &mut Work, line: u32, mark: u32) -> Result<(u32, u32), NoMemory>
+fn begin_each(work: &mut Work, line: u32, mark: u32) -> Result<(u32, u32), NoMemory>
     ensures mark { IfOk result (λ r. r.0 ≡ (front work.old).next) }
-    ensures holes { IfOk result (λ r. Holes (front work.old) (front work.new)
-        (λ to xs. aim_jump xs r.1 to) (λ none at lo ls. pieces.begin_each line mark lo none)
-        (λ ls. slot.Mark ∷ []) (λ ls. ls)) }
+    ensures holes { IfOk result (λ r. BeginsChoice (front work.old) (front work.new) r.1
+        (λ lo none. pieces.begin_each line mark lo none)) }
 {
     work.emit.begin_each(line, mark)
 }
 
-/// Behind the body of FORALL, where the overlay is aimed.
+// Behind the body of FORALL, where the overlay is aimed.
 #[tactic(auto, unfolding(alma_lower_work::specs::Front::front))]
-pub fn end_each(
-    work: &mut Work,
-    line: u32,
-    mark: u32,
-    inner: u32,
-    overlay: u32,
-) -> Result<(), NoMemory>
+fn end_each(work: &mut Work, line: u32, mark: u32, inner: u32, overlay: u32) -> Result<(), NoMemory>
     ensures { OnOk result (EndsEach (front work.old) (front work.new) line mark inner overlay) }
 {
     work.emit.end_each(line, mark, inner, overlay)
 }
 
-/// Behind FORALL, where it is aimed itself.
+// Behind FORALL, where it is aimed itself.
 #[tactic(auto, unfolding(alma_lower_work::specs::Front::front))]
-pub fn end_forall(work: &mut Work, line: u32, forall: u32) -> Result<(), NoMemory>
+fn end_forall(work: &mut Work, line: u32, forall: u32) -> Result<(), NoMemory>
     ensures { OnOk result (EndsForall (front work.old) (front work.new) line forall) }
 {
     work.emit.end_forall(line, forall)
@@ -78,9 +68,8 @@ pub fn then_begin_each(
 ) -> Result<(u32, u32), NoMemory>
     ensures done { OnOk result (IsOk done) }
     ensures mark { IfOk result (λ r. r.0 ≡ (front work.old).next) }
-    ensures holes { IfOk result (λ r. Holes (front work.old) (front work.new)
-        (λ to xs. aim_jump xs r.1 to) (λ none at lo ls. pieces.begin_each line mark lo none)
-        (λ ls. slot.Mark ∷ []) (λ ls. ls)) }
+    ensures holes { IfOk result (λ r. BeginsChoice (front work.old) (front work.new) r.1
+        (λ lo none. pieces.begin_each line mark lo none)) }
 {
     done?;
     begin_each(work, line, mark)

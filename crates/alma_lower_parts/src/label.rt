@@ -11,7 +11,7 @@ use alma_base::{NoMemory, Range};
 use alma_lower_work::Work;
 
 /// The labels of an arm: the code goes on where the number lies in one of them, and else by the
-/// jumps of the last.
+/// jumps of the last. Where there is none this is NoMemory; no arm without a label comes here.
 pub fn put_labels(
     work: &mut Work,
     line: u32,

@@ -67,8 +67,8 @@ pub fn emit_line(work: &mut Work, scene: &Scene<'_>, line: u32) -> Result<(), No
     work.add(line, Instr::WriteLine)
 }
 
-/// The slot behind a slot.
-pub fn slot_behind(slot: u32) -> Result<u32, NoMemory>
+// The slot behind a slot.
+fn slot_behind(slot: u32) -> Result<u32, NoMemory>
     ensures { IfOk result (λ next. next ≡ slot + 1) }
 {
     slot.checked_add(1).ok_or(NoMemory)

@@ -59,8 +59,8 @@ fn entry_instr(by: i64, to: u32, counter: u32, limit: u32) -> Instr
     }
 }
 
-/// Behind the limit: the first count is set, and its own slot becomes 0 where there is no turn.
-pub fn put_bounds(work: &mut Work, line: u32, by: i64, bounds: Bounds) -> Result<(), NoMemory>
+// Behind the limit: the first count is set, and its own slot becomes 0 where there is no turn.
+fn put_bounds(work: &mut Work, line: u32, by: i64, bounds: Bounds) -> Result<(), NoMemory>
     ensures { OnOk result (Codes (front work.old) (front work.new) (own line
         (pieces.count_from bounds.constant bounds.counter bounds.first
         ∷ pieces.entry_code by bounds.first bounds.counter bounds.limit ∷ []))) }
@@ -111,15 +111,9 @@ pub fn put_count(
     Ok(count)
 }
 
-/// The end of a turn of FOR: the step, which leaves the loop after the last, and the jump to the
-/// next turn.
-pub fn put_step(
-    work: &mut Work,
-    line: u32,
-    bounds: Bounds,
-    out: u32,
-    top: u32,
-) -> Result<(), NoMemory>
+// The end of a turn of FOR: the step, which leaves the loop after the last, and the jump to the
+// next turn.
+fn put_step(work: &mut Work, line: u32, bounds: Bounds, out: u32, top: u32) -> Result<(), NoMemory>
     ensures { OnOk result (Codes (front work.old) (front work.new) (own line
         (instr.Step bounds.counter bounds.limit bounds.step out ∷ instr.Jump top ∷ []))) }
 {

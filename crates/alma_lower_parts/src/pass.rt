@@ -14,8 +14,8 @@ use alma_base::NoMemory;
 use alma_ir::{CaseArm, Desig, Loop, Stmt, desig_inside, stmts_inside};
 use alma_lower_work::{Scene, Work};
 
-/// Passes the lines of the statements inside a designator.
-pub fn pass_desig(work: &mut Work, desig: &Desig) -> Result<(), NoMemory>
+// Passes the lines of the statements inside a designator.
+fn pass_desig(work: &mut Work, desig: &Desig) -> Result<(), NoMemory>
     ensures { OnOk result (Turns (front work.old) (front work.new)
         (behind (desig_phrases (desig_of desig.now)) (front work.old).lines)) }
 {

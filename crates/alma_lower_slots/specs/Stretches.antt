@@ -1,5 +1,5 @@
 -- The sharing that stretches say: each slot that is not kept is live between two addresses.
-use Rattle.std.specs.Prelude.{◌<◌, ◌≤◌, ℕ, Bool, not, ◌&&◌, nat_eq, nat_lt, nat_le, List, [], get_or}
+use Rattle.std.specs.Prelude.{◌<◌, ◌≤◌, ℕ, Bool, not, ◌&&◌, nat_eq, nat_lt, nat_le, List, get_or}
 use Rattle.alma_lower_slots.specs.declared.stretch.Stretch.{Stretch}
 use Rattle.alma_code.specs.declared.instr.Instr.TheVariants as I
 use Rattle.alma_code.specs.Plain.{PlainCode, start_at, end_at}

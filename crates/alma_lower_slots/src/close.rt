@@ -14,7 +14,8 @@ use crate::stretch::Stretch;
 use crate::uses::{away_of, lays_over, written_by};
 use alma_code::{Code, Instr, SlotKind};
 
-// The sources of an address by its place in the routine.
+// The sources of an address by its place in the routine; of one that is not there those that
+// nothing encloses.
 fn source_at(sources: &[Sources], place: usize) -> Sources
     ensures { result ≡ get_or sources.now place no_sources }
 {

@@ -9,10 +9,10 @@ use alma_base::NoMemory;
 use alma_code::Instr;
 
 /// The new number of a slot.
-pub fn slot_of(all: &[Stretch], slot: u32) -> u32
-    ensures { result ≡ slot_in all.now slot }
+pub fn slot_of(stretches: &[Stretch], slot: u32) -> u32
+    ensures { result ≡ slot_in stretches.now slot }
 {
-    match all.get(slot as usize) {
+    match stretches.get(slot as usize) {
         Some(stretch) => stretch.slot,
         None => slot,
     }
@@ -20,85 +20,85 @@ pub fn slot_of(all: &[Stretch], slot: u32) -> u32
 
 /// An instruction with its slots renamed.
 #[tactic(auto, unfolding(crate::specs::Slots::rename_slots))]
-pub fn renamed(instr: Instr, all: &[Stretch]) -> Instr
-    ensures { result ≡ rename_slots (λ n. (stretch_at all.now n).slot) instr }
+pub fn renamed(instr: Instr, stretches: &[Stretch]) -> Instr
+    ensures { result ≡ rename_slots (λ n. (stretch_at stretches.now n).slot) instr }
 {
     match instr {
         Instr::Const { to, value } => Instr::Const {
-            to: slot_of(all, to),
+            to: slot_of(stretches, to),
             value,
         },
         Instr::Move { to, from } => Instr::Move {
-            to: slot_of(all, to),
-            from: slot_of(all, from),
+            to: slot_of(stretches, to),
+            from: slot_of(stretches, from),
         },
         Instr::Add { to, left, right } => Instr::Add {
-            to: slot_of(all, to),
-            left: slot_of(all, left),
-            right: slot_of(all, right),
+            to: slot_of(stretches, to),
+            left: slot_of(stretches, left),
+            right: slot_of(stretches, right),
         },
         Instr::Sub { to, left, right } => Instr::Sub {
-            to: slot_of(all, to),
-            left: slot_of(all, left),
-            right: slot_of(all, right),
+            to: slot_of(stretches, to),
+            left: slot_of(stretches, left),
+            right: slot_of(stretches, right),
         },
         Instr::Mul { to, left, right } => Instr::Mul {
-            to: slot_of(all, to),
-            left: slot_of(all, left),
-            right: slot_of(all, right),
+            to: slot_of(stretches, to),
+            left: slot_of(stretches, left),
+            right: slot_of(stretches, right),
         },
         Instr::Div { to, left, right } => Instr::Div {
-            to: slot_of(all, to),
-            left: slot_of(all, left),
-            right: slot_of(all, right),
+            to: slot_of(stretches, to),
+            left: slot_of(stretches, left),
+            right: slot_of(stretches, right),
         },
         Instr::Mod { to, left, right } => Instr::Mod {
-            to: slot_of(all, to),
-            left: slot_of(all, left),
-            right: slot_of(all, right),
+            to: slot_of(stretches, to),
+            left: slot_of(stretches, left),
+            right: slot_of(stretches, right),
         },
         Instr::Neg { to, from } => Instr::Neg {
-            to: slot_of(all, to),
-            from: slot_of(all, from),
+            to: slot_of(stretches, to),
+            from: slot_of(stretches, from),
         },
         Instr::Equal { to, left, right } => Instr::Equal {
-            to: slot_of(all, to),
-            left: slot_of(all, left),
-            right: slot_of(all, right),
+            to: slot_of(stretches, to),
+            left: slot_of(stretches, left),
+            right: slot_of(stretches, right),
         },
         Instr::Less { to, left, right } => Instr::Less {
-            to: slot_of(all, to),
-            left: slot_of(all, left),
-            right: slot_of(all, right),
+            to: slot_of(stretches, to),
+            left: slot_of(stretches, left),
+            right: slot_of(stretches, right),
         },
         Instr::LessEq { to, left, right } => Instr::LessEq {
-            to: slot_of(all, to),
-            left: slot_of(all, left),
-            right: slot_of(all, right),
+            to: slot_of(stretches, to),
+            left: slot_of(stretches, left),
+            right: slot_of(stretches, right),
         },
         Instr::Flip { to, from } => Instr::Flip {
-            to: slot_of(all, to),
-            from: slot_of(all, from),
+            to: slot_of(stretches, to),
+            from: slot_of(stretches, from),
         },
         Instr::InRange { value, range } => Instr::InRange {
-            value: slot_of(all, value),
+            value: slot_of(stretches, value),
             range,
         },
         Instr::Local { to, first } => Instr::Local {
-            to: slot_of(all, to),
+            to: slot_of(stretches, to),
             first,
         },
         Instr::Global { to, first } => Instr::Global {
-            to: slot_of(all, to),
+            to: slot_of(stretches, to),
             first,
         },
         Instr::Same { to, from } => Instr::Same {
-            to: slot_of(all, to),
-            from: slot_of(all, from),
+            to: slot_of(stretches, to),
+            from: slot_of(stretches, from),
         },
         Instr::Field { to, from, offset } => Instr::Field {
-            to: slot_of(all, to),
-            from: slot_of(all, from),
+            to: slot_of(stretches, to),
+            from: slot_of(stretches, from),
             offset,
         },
         Instr::Index {
@@ -107,30 +107,30 @@ pub fn renamed(instr: Instr, all: &[Stretch]) -> Instr
             index,
             range,
         } => Instr::Index {
-            to: slot_of(all, to),
-            from: slot_of(all, from),
-            index: slot_of(all, index),
+            to: slot_of(stretches, to),
+            from: slot_of(stretches, from),
+            index: slot_of(stretches, index),
             range,
         },
         Instr::Load { to, from } => Instr::Load {
-            to: slot_of(all, to),
-            from: slot_of(all, from),
+            to: slot_of(stretches, to),
+            from: slot_of(stretches, from),
         },
         Instr::Store { to, from } => Instr::Store {
-            to: slot_of(all, to),
-            from: slot_of(all, from),
+            to: slot_of(stretches, to),
+            from: slot_of(stretches, from),
         },
         Instr::Known { to, of } => Instr::Known {
-            to: slot_of(all, to),
-            of: slot_of(all, of),
+            to: slot_of(stretches, to),
+            of: slot_of(stretches, of),
         },
         Instr::Bind {
             place,
             value,
             range,
         } => Instr::Bind {
-            place: slot_of(all, place),
-            value: slot_of(all, value),
+            place: slot_of(stretches, place),
+            value: slot_of(stretches, value),
             range,
         },
         Instr::Unify {
@@ -139,67 +139,67 @@ pub fn renamed(instr: Instr, all: &[Stretch]) -> Instr
             right,
             right_range,
         } => Instr::Unify {
-            left: slot_of(all, left),
+            left: slot_of(stretches, left),
             left_range,
-            right: slot_of(all, right),
+            right: slot_of(stretches, right),
             right_range,
         },
         Instr::CopyCells { to, from } => Instr::CopyCells {
-            to: slot_of(all, to),
-            from: slot_of(all, from),
+            to: slot_of(stretches, to),
+            from: slot_of(stretches, from),
         },
         Instr::SameCells { left, right } => Instr::SameCells {
-            left: slot_of(all, left),
-            right: slot_of(all, right),
+            left: slot_of(stretches, left),
+            right: slot_of(stretches, right),
         },
         Instr::JumpZero { value, to } => Instr::JumpZero {
-            value: slot_of(all, value),
+            value: slot_of(stretches, value),
             to,
         },
         Instr::Check { value } => Instr::Check {
-            value: slot_of(all, value),
+            value: slot_of(stretches, value),
         },
         Instr::Mark { to } => Instr::Mark {
-            to: slot_of(all, to),
+            to: slot_of(stretches, to),
         },
         Instr::Cut { mark } => Instr::Cut {
-            mark: slot_of(all, mark),
+            mark: slot_of(stretches, mark),
         },
         Instr::Forall { mark, resume } => Instr::Forall {
-            mark: slot_of(all, mark),
+            mark: slot_of(stretches, mark),
             resume,
         },
         Instr::Overlay { mark, resume } => Instr::Overlay {
-            mark: slot_of(all, mark),
+            mark: slot_of(stretches, mark),
             resume,
         },
         Instr::Keep { mark } => Instr::Keep {
-            mark: slot_of(all, mark),
+            mark: slot_of(stretches, mark),
         },
         Instr::Call { routine, first, to } => Instr::Call {
             routine,
-            first: slot_of(all, first),
-            to: slot_of(all, to),
+            first: slot_of(stretches, first),
+            to: slot_of(stretches, to),
         },
         Instr::ReturnValue { value } => Instr::ReturnValue {
-            value: slot_of(all, value),
+            value: slot_of(stretches, value),
         },
         Instr::ReadInt { place, range } => Instr::ReadInt {
-            place: slot_of(all, place),
+            place: slot_of(stretches, place),
             range,
         },
         Instr::ReadChar { place, range } => Instr::ReadChar {
-            place: slot_of(all, place),
+            place: slot_of(stretches, place),
             range,
         },
         Instr::WriteInt { value } => Instr::WriteInt {
-            value: slot_of(all, value),
+            value: slot_of(stretches, value),
         },
         Instr::WriteChar { value } => Instr::WriteChar {
-            value: slot_of(all, value),
+            value: slot_of(stretches, value),
         },
         Instr::WriteBool { value } => Instr::WriteBool {
-            value: slot_of(all, value),
+            value: slot_of(stretches, value),
         },
         Instr::Step {
             counter,
@@ -207,27 +207,27 @@ pub fn renamed(instr: Instr, all: &[Stretch]) -> Instr
             by,
             out,
         } => Instr::Step {
-            counter: slot_of(all, counter),
-            limit: slot_of(all, limit),
-            by: slot_of(all, by),
+            counter: slot_of(stretches, counter),
+            limit: slot_of(stretches, limit),
+            by: slot_of(stretches, by),
             out,
         },
         Instr::Own { to } => Instr::Own {
-            to: slot_of(all, to),
+            to: slot_of(stretches, to),
         },
         Instr::Chain { to, link, slot } => Instr::Chain {
-            to: slot_of(all, to),
-            link: slot_of(all, link),
+            to: slot_of(stretches, to),
+            link: slot_of(stretches, link),
             slot,
         },
         Instr::Outer { to, link, first } => Instr::Outer {
-            to: slot_of(all, to),
-            link: slot_of(all, link),
+            to: slot_of(stretches, to),
+            link: slot_of(stretches, link),
             first,
         },
         Instr::OuterSame { to, link, slot } => Instr::OuterSame {
-            to: slot_of(all, to),
-            link: slot_of(all, link),
+            to: slot_of(stretches, to),
+            link: slot_of(stretches, link),
             slot,
         },
         Instr::Jump { .. }
@@ -245,14 +245,14 @@ pub fn renamed(instr: Instr, all: &[Stretch]) -> Instr
 pub fn push_renamed(
     instrs: &mut Vec<Instr>,
     code: &[Instr],
-    all: &[Stretch],
+    stretches: &[Stretch],
 ) -> Result<(), NoMemory>
     ensures { OnOk result (instrs.new.items ≡ instrs.old.items
-        ++ map (rename_slots (slot_in all.now))
+        ++ map (rename_slots (slot_in stretches.now))
         code.now) }
 {
     for instr in code {
-        instrs.push(renamed(*instr, all))?;
+        instrs.push(renamed(*instr, stretches))?;
     }
     Ok(())
 }

@@ -54,18 +54,18 @@ fn push_instrs(
     instrs: &mut Vec<Instr>,
     code: &Code,
     routine: usize,
-    all: &[Stretch],
+    stretches: &[Stretch],
 ) -> Result<(), NoMemory>
     requires sound { IsSound (code_of code.now) }
     requires exists { routine < length (code_of code.now).routines }
     requires start { length instrs.old.items ≡ start_at (code_of code.now) routine }
     ensures { OnOk result (instrs.new.items ≡ instrs.old.items
-        ++ map (rename_slots (slot_in all.now))
+        ++ map (rename_slots (slot_in stretches.now))
         (instrs_in (code_of code.now) routine)) }
 {
     let start = instrs.len();
     let end = code.routines[routine].code_end as usize;
-    push_renamed(instrs, &code.code[start..end], all)
+    push_renamed(instrs, &code.code[start..end], stretches)
 }
 
 // Adds a routine with its slots shared, or says that they may not be.

@@ -6,7 +6,7 @@ use crate::lookups::{end_of, instr_at, param_count, start_of};
 use crate::matters::is_kept;
 use crate::names::own_of;
 use crate::sources::{Sources, sources_of};
-use crate::stretch::{KEPT, Stretch};
+use crate::stretch::{KEPT, NOWHERE, Stretch};
 use crate::units::{Unit, give_numbers};
 use crate::uses::{reads_of, written_by};
 use alma_base::{NoMemory, SLOT_LIMIT};
@@ -14,17 +14,10 @@ use alma_code::{Code, Instr, SlotKind};
 use std::alloc::Global;
 
 // A stretch of more instructions is not looked at: its slot is kept.
-const LONGEST: u32 = 256;
+const LONGEST_STRETCH: u32 = 256;
 
-// Before anything of a slot was seen.
-const UNSEEN: Stretch = Stretch {
-    slot: 0,
-    low: u32::MAX,
-    high: 0,
-};
-
-// Of a slot that is kept; its number is given later.
-const APART: Stretch = Stretch {
+// The stretch of a slot that is kept; its number is given later.
+const KEPT_STRETCH: Stretch = Stretch {
     slot: 0,
     low: 0,
     high: KEPT,
@@ -79,7 +72,7 @@ fn without_uses(alloc: Global, own: u32, count: u32) -> Result<Vec<Stretch>, NoM
             low: 0,
             high: KEPT,
         };
-        stretches.push(if n < own { kept } else { UNSEEN })?;
+        stretches.push(if n < own { kept } else { NOWHERE })?;
     }
     Ok(stretches)
 }
@@ -139,8 +132,8 @@ fn see_read(stretches: &mut [Stretch], slot: u32, at: u32) {
     if slot >= stretches.len() || stretches[slot].high == KEPT {
         return;
     }
-    if stretches[slot].low == UNSEEN.low {
-        stretches[slot] = APART;
+    if stretches[slot].low == NOWHERE.low {
+        stretches[slot] = KEPT_STRETCH;
     } else {
         stretches[slot].high = stretches[slot].high.max(at);
     }
@@ -163,19 +156,19 @@ fn closure_of(start: u32, sources: &[Sources], stretch: Stretch) -> Stretch {
     if stretch.high <= stretch.low || is_kept(stretch) {
         return closure;
     }
-    for at in stretch.low.saturating_add(1)..stretch.low.saturating_add(LONGEST) {
+    for at in stretch.low.saturating_add(1)..stretch.low.saturating_add(LONGEST_STRETCH) {
         if at > closure.high {
             return closure;
         }
         let Some(from) = sources.get(at.saturating_sub(start) as usize) else {
-            return APART;
+            return KEPT_STRETCH;
         };
         if from.first <= stretch.low {
-            return APART;
+            return KEPT_STRETCH;
         }
         closure.high = closure.high.max(from.last);
     }
-    APART
+    KEPT_STRETCH
 }
 
 // The stretch, if no number lives in it behind a carry; else the slot is kept.
@@ -183,5 +176,5 @@ fn calm_or_kept(code: &Code, kind: Option<SlotKind>, stretch: Stretch) -> Stretc
     if is_kept(stretch) || is_calm_for(code, kind, stretch.low, stretch.high) {
         return stretch;
     }
-    APART
+    KEPT_STRETCH
 }

@@ -11,3 +11,10 @@ pub struct Stretch {
 
 /// The end of a stretch that has none.
 pub const KEPT: u32 = u32::MAX;
+
+/// The stretch of a slot that is live nowhere, before anything of it was seen.
+pub const NOWHERE: Stretch = Stretch {
+    slot: 0,
+    low: u32::MAX,
+    high: 0,
+};

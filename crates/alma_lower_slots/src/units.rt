@@ -1,13 +1,13 @@
 // New numbers of slots: those of one kind whose stretches do not meet share one. What is given here
 // the checker looks over.
 
-use crate::stretch::Stretch;
+use crate::stretch::{NOWHERE, Stretch};
 use alma_base::{NoMemory, SLOT_LIMIT};
 use alma_code::SlotKind;
 use std::alloc::Global;
 
-// So many of the new slots that were made last are looked at.
-const LOOK: usize = 256;
+// So many seats, those that were made last, are looked at for a unit.
+const MOST_SEATS: usize = 256;
 
 /// Slots that stay together: the arguments of a call, or one slot by itself.
 #[derive(Clone, Copy)]
@@ -35,36 +35,43 @@ pub fn give_numbers(
     stretches: &mut [Stretch],
 ) -> Result<(), NoMemory> {
     let mut seats: Vec<Seat> = Vec::new(alloc);
-    let mut given: Vec<u32> = Vec::new(alloc);
+    // The seat of the unit that begins at each slot, and 0 of a slot where none does.
+    let mut seat_numbers: Vec<u32> = Vec::new(alloc);
     for unit in units {
-        let n = given.len();
-        let taken = if n < own as usize || unit.first as usize != n {
+        let n = seat_numbers.len();
+        let seat = if n < own as usize || unit.first as usize != n {
             0
         } else {
             let stretch = hull(stretches, *unit);
             take_seat(&mut seats, kinds, *unit, stretch)?
         };
-        given.push(taken)?;
+        seat_numbers.push(seat)?;
     }
     let firsts = numbers_of(alloc, &seats, kinds, own)?;
-    rename(&firsts, &given, own, units, stretches);
+    rename(&firsts, &seat_numbers, own, units, stretches);
     Ok(())
 }
 
 // Each slot behind the own ones gets its number in its seat.
-fn rename(firsts: &[u32], given: &[u32], own: u32, units: &[Unit], stretches: &mut [Stretch]) {
+fn rename(
+    firsts: &[u32],
+    seat_numbers: &[u32],
+    own: u32,
+    units: &[Unit],
+    stretches: &mut [Stretch],
+) {
     let mut n = 0u32;
     for unit in units {
         if n >= own && (n as usize) < stretches.len() {
-            stretches[n as usize].slot = number_in(firsts, given, *unit, n);
+            stretches[n as usize].slot = number_in(firsts, seat_numbers, *unit, n);
         }
         n = n.saturating_add(1);
     }
 }
 
 // The new number of a slot of a unit.
-fn number_in(firsts: &[u32], given: &[u32], unit: Unit, slot: u32) -> u32 {
-    let first = entry(firsts, entry(given, unit.first));
+fn number_in(firsts: &[u32], seat_numbers: &[u32], unit: Unit, slot: u32) -> u32 {
+    let first = entry(firsts, entry(seat_numbers, unit.first));
     first.saturating_add(slot.saturating_sub(unit.first))
 }
 
@@ -78,11 +85,7 @@ fn entry(list: &[u32], place: u32) -> u32 {
 
 // The stretch of all slots of a unit: it is kept where one is, and dead where all are.
 fn hull(stretches: &[Stretch], unit: Unit) -> Stretch {
-    let mut all = Stretch {
-        slot: 0,
-        low: u32::MAX,
-        high: 0,
-    };
+    let mut all = NOWHERE;
     let first = (unit.first as usize).min(stretches.len());
     let end = first.saturating_add(unit.len as usize).min(stretches.len());
     for stretch in &stretches[first..end] {
@@ -106,7 +109,7 @@ fn take_seat(
     if found > SLOT_LIMIT as usize {
         return Err(NoMemory);
     }
-    for back in 1..found.min(LOOK) + 1 {
+    for back in 1..found.min(MOST_SEATS) + 1 {
         let i = found - back;
         if (dead || seats[i].free <= stretch.low) && alike(kinds, seats[i], unit) {
             seats[i].free = seats[i].free.max(stretch.high);

@@ -145,6 +145,7 @@ fn one(a: u32) -> [Option<u32>; 3]
     [Some(a), None, None]
 }
 
+// Two slots, and no third.
 fn two(a: u32, b: u32) -> [Option<u32>; 3]
     ensures { slots_of result ≡ a ∷ b ∷ [] }
 {

@@ -33,8 +33,8 @@ pub fn code_of_a_checked_program_keeps_the_records()
         → HoldsEachOnce p code → KeepsRecords code }
 {}
 
-/// It is of version 2.
-pub fn code_of_a_program_is_of_version_2()
+/// It is of the latest version, which an object may have.
+pub fn code_of_a_program_keeps_the_version()
     ensures { (p : Program) (code : PlainCode) → IsCodeOf p code → KeepsVersion code }
 {}
 

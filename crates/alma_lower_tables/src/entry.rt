@@ -2,7 +2,7 @@
 ghost use Rattle.std.specs.Prelude.{◌≡◌, true, [], ◌∷◌, OnOk};
 ghost use Rattle.alma_base.specs.Numbers.{is_integer};
 ghost use Rattle.alma_lower_tables.specs.Numbers.{tables_of};
-ghost use Rattle.alma_lower_templates.specs.Tables.{is_whole};
+ghost use Rattle.alma_lower_templates.specs.Tables as tables;
 ghost use Rattle.alma_lower_tables.specs.AddsPhrases.{check_range, HasIntegerEnds, Names};
 
 use crate::numbers::Numbers;
@@ -19,20 +19,19 @@ pub fn add_range(numbers: &mut Numbers, range: Range) -> Result<(), NoMemory>
     numbers.add_range(range)
 }
 
-// Whether a range holds all numbers of INTEGER.
-fn holds_all(range: Range) -> bool
-    ensures { result ≡ is_whole range }
+/// Whether a range holds all numbers of INTEGER, so that no code is put for a check against it.
+pub fn is_whole(range: Range) -> bool
+    ensures { result ≡ tables.is_whole range }
 {
     range.low <= i64::MIN && i64::MAX <= range.high
 }
 
-/// Gives a range that is only checked a number where it has none. One that holds all numbers of
-/// INTEGER gets none, since no code is put for a check against it.
+/// Gives a range that is only checked a number where it has none. A whole one gets none.
 pub fn add_checked(numbers: &mut Numbers, range: Range) -> Result<(), NoMemory>
     ensures names { OnOk result (Names (tables_of numbers.old) (tables_of numbers.new)
         (check_range range) []) }
 {
-    if holds_all(range) {
+    if is_whole(range) {
         return Ok(());
     }
     add_range(numbers, range)

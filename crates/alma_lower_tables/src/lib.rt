@@ -9,6 +9,7 @@ mod program;
 mod tables;
 mod walk;
 
+pub use entry::is_whole;
 pub use kinds::{own_kinds, runs_of};
 pub use numbers::Numbers;
 pub use program::gather;

@@ -18,8 +18,13 @@ pub record Around : Type 0 where
   pub tables : Tables
   pub routine : ℕ
 
+-- that of a scene in memory
 unfoldable pub around : Scene → Around
 around s = record { program = program_of s.program.now; tables = tables_of s.numbers.now; routine = s.routine }
+
+-- the range of the result of the routine
+abbrev pub result_of : Around → Option Range
+result_of s = (routine_at s.program s.routine).result
 
 -- the code so far, the next slot, the kinds of the slots so far, the lines that are still to be handed out, and all lines
 pub record Front : Type 0 where
@@ -29,14 +34,14 @@ pub record Front : Type 0 where
   pub lines : List ℕ
   pub all_lines : List ℕ
 
+-- that of a code in the making in memory
 unfoldable pub front : Work → Front
 front w = record {
   code = made w.emit;
   next = w.emit.next;
   kinds = w.emit.kinds.items;
   lines = drop w.handed w.lines.items;
-  all_lines =
-      w.lines.items;
+  all_lines = w.lines.items;
 }
 
 -- b is a with this code behind its own, given its address, the next slot and the lines; with these slots; and
@@ -94,10 +99,6 @@ pub record EndsForall (a b : Front) (line forall : ℕ) : Type 0 where
   pub next_slot : b.next ≡ a.next
   pub left : b.lines ≡ a.lines
   pub whole : b.all_lines ≡ a.all_lines
-
--- the range of the result of the routine
-abbrev pub result_of : Around → Option Range
-result_of s = (routine_at s.program s.routine).result
 
 -- b is a with other lines to be handed out
 pub record Turns (a b : Front) (ls : List ℕ) : Type 0 where

@@ -40,6 +40,7 @@ module _ (s : Around) where
   stand_by (Some from) place = stands.Own (T.own_slot s.program s.tables s.routine from)
   stand_by None place = stands.Placed place
 
+  -- where a variable stands, whose place takes slots from `lo` on
   abbrev pub stand_of : (lo : ℕ) → Desig → Stand
   stand_of lo d = stand_by (bare_desig d) (T.held_at s.program s.tables s.routine lo d)
 

@@ -23,6 +23,7 @@ pub fn is_simple(expr: &Expr) -> bool
     }
 }
 
+// Whether no operand has a call or a truth in it.
 #[cycle(simple)]
 fn are_simple_links(links: &[Link]) -> bool
     ensures { result ≡ are_simple_links (links_list links.now) }
@@ -35,6 +36,7 @@ fn are_simple_links(links: &[Link]) -> bool
     true
 }
 
+// Whether no index has a call or a truth in it.
 #[cycle(simple)]
 fn are_simple_sels(sels: &[Sel]) -> bool
     ensures { result ≡ are_simple_sels (sels_list sels.now) }
@@ -47,6 +49,7 @@ fn are_simple_sels(sels: &[Sel]) -> bool
     true
 }
 
+// Whether the index of a selector, if it has one, has no call and no truth in it.
 #[cycle(simple)]
 fn is_simple_sel(sel: &Sel) -> bool
     ensures { result ≡ is_simple_sel (sel_of sel.now) }

@@ -9,9 +9,9 @@ ghost use Rattle.alma_lower_work.specs.Front.{around};
 use crate::first_operand::is_own;
 use crate::scene::Scene;
 use crate::stand::own_stand;
-use crate::value::holds_all;
 use alma_base::{NoMemory, Range};
 use alma_ir::{Desig, Expr};
+use alma_lower_tables::is_whole;
 
 /// Whether an expression that has code puts its value in place by its last instruction alone.
 pub fn ends_alone(expr: &Expr) -> bool
@@ -32,7 +32,7 @@ pub fn ends_alone(expr: &Expr) -> bool
 pub fn is_straight(expr: &Expr, range: Range) -> bool
     ensures { result ≡ slots.is_straight (expr_of expr.now) range }
 {
-    holds_all(range) && ends_alone(expr)
+    is_whole(range) && ends_alone(expr)
 }
 
 /// The slot of a variable into which the value that is assigned to it goes straight.

@@ -3,7 +3,6 @@ ghost use Rattle.std.specs.Prelude.{◌≡◌, ◌∷◌, [], length, IfOk, OnOk
 ghost use Rattle.alma_code.specs.declared.instr.Instr.TheVariants as instr;
 ghost use Rattle.alma_lower_templates.specs.LineInstr.{own};
 ghost use Rattle.alma_lower_templates.specs.Pieces as pieces;
-ghost use Rattle.alma_lower_templates.specs.Tables.{is_whole};
 ghost use Rattle.alma_lower_templates.specs.Templates as T;
 ghost use Rattle.alma_lower_work.specs.Front.{around, front, result_of, Codes};
 ghost use Rattle.alma_lower_work.specs.Puts.{behind_sign, first_of};
@@ -14,6 +13,7 @@ use crate::work::Work;
 use alma_base::{NoMemory, Range};
 use alma_code::Instr;
 use alma_ir::{Cmp, Op, ReadAs, WriteAs};
+use alma_lower_tables::is_whole;
 
 /// The instruction of an operator on the numbers in two slots.
 pub fn op_instr(op: Op, to: u32, left: u32, right: u32) -> Instr
@@ -109,13 +109,6 @@ pub fn put_neg(
     Ok(FirstOperand { from: to, to })
 }
 
-// Whether a range holds all numbers of INTEGER.
-pub(crate) fn holds_all(range: Range) -> bool
-    ensures { result ≡ is_whole range }
-{
-    range.low <= i64::MIN && i64::MAX <= range.high
-}
-
 /// The check that the number in a slot is in a range; none for a range of all numbers.
 pub fn put_fit(
     work: &mut Work,
@@ -127,7 +120,7 @@ pub fn put_fit(
     ensures { OnOk result (Codes (front work.old) (front work.new)
         (own line (pieces.fit_code (around scene.now).tables range value))) }
 {
-    if holds_all(range) {
+    if is_whole(range) {
         return Ok(());
     }
     let range = scene.range_number(range)?;
