@@ -74,10 +74,11 @@ number_text (Some number) = codes " " ++ decimal number
 abbrev pub object_text : ObjectFault → List ℕ
 object_text fault = codes "alma: object " ++ (object_fault_name fault ++ (number_text (object_fault_number fault) ++ codes "\n"))
 
--- the text of code that is not sound, by the first rule that it breaks and where
+-- the line of a broken rule and where it is broken, by their texts
 abbrev pub rule_line : (rule at : List ℕ) → List ℕ
 rule_line rule at = codes "alma: object Rule " ++ (rule ++ (codes " " ++ (at ++ codes "\n")))
 
+-- the text of code that is not sound, by the first rule that it breaks and where
 abbrev pub rule_text : VerifyFault → List ℕ
 rule_text fault = rule_line (decimal fault.rule) (decimal fault.at)
 

@@ -21,6 +21,7 @@ abbrev pub is_file_name : List ℕ → Bool
 is_file_name [] = false
 is_file_name (byte ∷ bytes) = not (eqb byte 45)
 
+-- a word may name a file
 abbrev pub IsFileName : List ℕ → Type 0
 IsFileName word = is_file_name word ≡ true
 

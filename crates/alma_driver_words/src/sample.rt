@@ -8,18 +8,27 @@ use crate::sample_line::{push_line, push_texts};
 use alma_base::NoMemory;
 use std::alloc::Global;
 
+/// The first number of the sequence. Behind x stands (`MULTIPLIER` x + `INCREMENT`) mod `MODULUS`.
+const FIRST_NUMBER: u32 = 12_345;
+
+const MULTIPLIER: u64 = 1_103_515_245;
+
+const INCREMENT: u64 = 12_345;
+
+const MODULUS: u64 = 2_147_483_648;
+
 // The number behind a number.
 fn next_number(number: u32) -> u32
     ensures { result ≡ next_number number }
 {
-    ((1_103_515_245 * u64::from(number) + 12_345) % 2_147_483_648) as u32
+    ((MULTIPLIER * u64::from(number) + INCREMENT) % MODULUS) as u32
 }
 
 // The lines of as many numbers, from the first on.
 fn push_lines(text: &mut Vec<u8>, lines: u32) -> Result<(), NoMemory>
     ensures { OnOk result (text.new.items ≡ text.old.items ++ lines_from lines 12345) }
 {
-    let mut number = 12_345;
+    let mut number = FIRST_NUMBER;
     for _ in 0..lines {
         push_line(text, number)?;
         number = next_number(number);

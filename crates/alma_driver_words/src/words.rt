@@ -65,7 +65,7 @@ impl From<NoMemory> for WordsError {
     }
 }
 
-/// A word that may name a file.
+/// Whether a word may name a file: it is not empty, and `-` is not its first byte.
 pub fn is_file_name(word: &str) -> bool
     ensures { result ≡ is_file_name_of word.now }
 {

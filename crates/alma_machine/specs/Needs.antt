@@ -9,7 +9,8 @@ use Rattle.alma_code.specs.Plain.{PlainCode, head_at}
 use Rattle.alma_code.specs.Rules.{has_room}
 use Rattle.alma_machine_acts.specs.Calls.{HasArguments, CallsBack}
 use Rattle.alma_machine_acts.specs.Inputs.{HasPosition}
-use Rattle.alma_machine_acts.specs.Rows.{HasNumber, HasCells, HasOneCell, HasPlace, HasMark, HasLink, HasLinkTo, LeadsTo, IsNumbered, width}
+use Rattle.alma_machine_acts.specs.Rows.{HasNumber, HasCells, HasOneCell, HasPlace, HasMark, HasLink, HasLinkTo, LeadsTo}
+use Rattle.alma_machine_acts.specs.Rows.{IsFaultNumber, width}
 
 -- the slots that an instruction of numbers reads and writes are of their kinds; other instructions are none
 unfoldable pub Computes : List PlainFrame → Instr → Type 0
@@ -66,7 +67,7 @@ Needs code f (I.WriteChar value) = HasNumber f value
 Needs code f (I.WriteBool value) = HasNumber f value
 Needs code f (I.WriteText text) = text < length code.texts
 Needs code f I.WriteLine = Unit {0}
-Needs code f (I.Fault number) = IsNumbered number
+Needs code f (I.Fault number) = IsFaultNumber number
 Needs code f (I.Step counter limit by out) = HasNumber f counter × HasNumber f limit × HasNumber f by
 Needs code f (I.Own to) = HasLinkTo f to
 Needs code f (I.Chain to link slot) = HasLinkTo f to × HasLink f link × LeadsTo f link slot
@@ -159,25 +160,33 @@ is_link_form (I.Outer to link first) = true
 is_link_form (I.OuterSame to link slot) = true
 is_link_form _ = false
 
--- what is left to each group in turn: an instruction of none of the groups before it
+-- What is left to each group in turn: an instruction of none of the groups before it.
+
+-- left to jumps, tests and counted loops
 abbrev pub LeftToControl : Instr → Type 0
 LeftToControl i = is_first_form i ≡ false
 
+-- left to places
 abbrev pub LeftToPlaces : Instr → Type 0
 LeftToPlaces i = LeftToControl i × (is_control_form i ≡ false)
 
+-- left to cells at places
 abbrev pub LeftToCells : Instr → Type 0
 LeftToCells i = LeftToPlaces i × (is_place_form i ≡ false)
 
+-- left to choice entries
 abbrev pub LeftToChoices : Instr → Type 0
 LeftToChoices i = LeftToCells i × (is_cell_form i ≡ false)
 
+-- left to calls and returns
 abbrev pub LeftToCalls : Instr → Type 0
 LeftToCalls i = LeftToChoices i × (is_choice_form i ≡ false)
 
+-- left to reads of the input
 abbrev pub LeftToInput : Instr → Type 0
 LeftToInput i = LeftToCalls i × (is_call_form i ≡ false)
 
+-- left to links
 abbrev pub LeftToLinks : Instr → Type 0
 LeftToLinks i = LeftToInput i × (is_read_form i ≡ false)
 

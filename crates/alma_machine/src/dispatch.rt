@@ -13,14 +13,16 @@ use alma_machine_acts::calls::{call, leave, leave_with};
 use alma_machine_acts::choices::{begin_body, choose, cut, finish, forall, keep, set_mark};
 use alma_machine_acts::copies::copy_cells;
 use alma_machine_acts::input::{read_char, read_number};
-use alma_machine_acts::output::{numbered, print_character, print_number, print_text, print_truth};
+use alma_machine_acts::output::{
+    fault_of_number, print_character, print_number, print_text, print_truth,
+};
 use alma_machine_acts::{CodeView, Registers};
 use alma_memory::MachineMemory;
 
 /// The slot that an instruction of numbers writes, and the number that goes there.
 #[tactic(auto, unfolding(alma_code::specs::Machine::act, crate::specs::Needs::Computes))]
 #[inline(always)]
-pub(crate) fn computed<M: MachineMemory>(
+pub(crate) fn computation<M: MachineMemory>(
     registers: &Registers<M>,
     instr: Instr,
 ) -> (u32, Result<i64, RunFault>)
@@ -37,7 +39,7 @@ pub(crate) fn computed<M: MachineMemory>(
         Instr::Sub { to, left, right } => (to, registers.difference(left, right)),
         Instr::Mul { to, left, right } => (to, registers.product(left, right)),
         Instr::Div { to, left, right } => (to, registers.quotient(left, right)),
-        Instr::Mod { to, left, right } => (to, registers.rest(left, right)),
+        Instr::Mod { to, left, right } => (to, registers.remainder(left, right)),
         Instr::Neg { to, from } => (to, registers.negated(from)),
         Instr::Equal { to, left, right } => (to, registers.equal(left, right)),
         Instr::Less { to, left, right } => (to, registers.less(left, right)),
@@ -89,7 +91,7 @@ pub fn act<M: MachineMemory, V: CodeView>(
         | Instr::Flip { .. }
         | Instr::Load { .. }
         | Instr::Known { .. } => {
-            let (to, number) = computed(registers, instr);
+            let (to, number) = computation(registers, instr);
             registers.put(to, number)
         }
         _ => act_control(registers, view, instr, input),
@@ -119,7 +121,7 @@ fn act_control<M: MachineMemory, V: CodeView>(
         Instr::JumpZero { value, to } => Ok(registers.jump_zero(value, to)),
         Instr::Check { value } => Ok(registers.check(value)),
         Instr::Fail => Ok(registers.fail()),
-        Instr::Fault { number } => Ok(registers.end(End::Fault(numbered(number)))),
+        Instr::Fault { number } => Ok(registers.end(End::Fault(fault_of_number(number)))),
         Instr::Step {
             counter,
             limit,

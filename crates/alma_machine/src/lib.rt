@@ -3,6 +3,7 @@
 
 mod dispatch;
 mod machine;
+mod opcode;
 mod quick;
 mod quick_act;
 mod quick_calls;

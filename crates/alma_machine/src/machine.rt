@@ -146,7 +146,7 @@ fn write_printed<K: Sink>(step: Step, printed: &[u8], out: &mut K) -> Result<(),
 }
 
 // The machine goes on after a step that was not the last, and where memory was there.
-fn goes_on(step: &Result<Step, NoMemory>) -> bool
+fn runs_after(step: &Result<Step, NoMemory>) -> bool
     ensures { result ≡ runs_after step.now }
 {
     match step {
@@ -301,7 +301,7 @@ impl<'b, 'i> Machine<'b, 'i> {
             &mut self.registers,
             &mut self.printed,
         );
-        self.running = goes_on(&step);
+        self.running = runs_after(&step);
         step
     }
 

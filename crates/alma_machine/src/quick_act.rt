@@ -10,7 +10,7 @@ ghost use Rattle.alma_machine.specs.Quick.{Quietly};
 ghost use Rattle.alma_machine.specs.View.{run_state};
 ghost use Rattle.alma_machine_acts.specs.Rows.{HasNumber, HasPlace, count_on, put_or_fault, point_or_fault};
 
-use crate::dispatch::computed;
+use crate::dispatch::computation;
 use alma_base::{Range, RunFault};
 use alma_code::{Cell, Instr};
 use alma_machine_acts::{CodeView, Mode, Registers, Spot};
@@ -134,7 +134,7 @@ pub(crate) fn number_quickly<V: CodeView>(
     ensures { Quietly result (run_state registers.old) (run_state registers.new)
         (act (V.code view.now) input.now instr (run_state registers.old)) }
 {
-    let (to, number) = computed(registers, instr);
+    let (to, number) = computation(registers, instr);
     lay_number(registers, to, number)
 }
 

@@ -7,6 +7,7 @@ ghost use Rattle.alma_machine.specs.Quick.{Quickly};
 ghost use Rattle.alma_machine.specs.View.{run_state};
 ghost use Rattle.alma_object.specs.View.{instr_of_record};
 
+use crate::opcode;
 use crate::quick_act::{control_quickly, number_quickly, place_quickly};
 use crate::quick_calls::call_quickly;
 use crate::quick_cells::{cell_quickly, choice_quickly};
@@ -30,21 +31,21 @@ pub(crate) fn act_quickly<V: CodeView>(
         (act (V.code view.now) input.now (instr_of_record form.entry) (run_state registers.old)) }
 {
     match form.opcode() {
-        1 => {
+        opcode::CONST => {
             let instr = Instr::Const {
                 to: form.first(),
                 value: form.value(),
             };
             number_quickly(registers, view, instr, input)
         }
-        2 => {
+        opcode::MOVE => {
             let instr = Instr::Move {
                 to: form.first(),
                 from: form.second(),
             };
             number_quickly(registers, view, instr, input)
         }
-        3 => {
+        opcode::ADD => {
             let instr = Instr::Add {
                 to: form.first(),
                 left: form.second(),
@@ -52,7 +53,7 @@ pub(crate) fn act_quickly<V: CodeView>(
             };
             number_quickly(registers, view, instr, input)
         }
-        4 => {
+        opcode::SUB => {
             let instr = Instr::Sub {
                 to: form.first(),
                 left: form.second(),
@@ -60,7 +61,7 @@ pub(crate) fn act_quickly<V: CodeView>(
             };
             number_quickly(registers, view, instr, input)
         }
-        5 => {
+        opcode::MUL => {
             let instr = Instr::Mul {
                 to: form.first(),
                 left: form.second(),
@@ -68,7 +69,7 @@ pub(crate) fn act_quickly<V: CodeView>(
             };
             number_quickly(registers, view, instr, input)
         }
-        6 => {
+        opcode::DIV => {
             let instr = Instr::Div {
                 to: form.first(),
                 left: form.second(),
@@ -76,7 +77,7 @@ pub(crate) fn act_quickly<V: CodeView>(
             };
             number_quickly(registers, view, instr, input)
         }
-        7 => {
+        opcode::MOD => {
             let instr = Instr::Mod {
                 to: form.first(),
                 left: form.second(),
@@ -84,14 +85,14 @@ pub(crate) fn act_quickly<V: CodeView>(
             };
             number_quickly(registers, view, instr, input)
         }
-        8 => {
+        opcode::NEG => {
             let instr = Instr::Neg {
                 to: form.first(),
                 from: form.second(),
             };
             number_quickly(registers, view, instr, input)
         }
-        9 => {
+        opcode::EQUAL => {
             let instr = Instr::Equal {
                 to: form.first(),
                 left: form.second(),
@@ -99,7 +100,7 @@ pub(crate) fn act_quickly<V: CodeView>(
             };
             number_quickly(registers, view, instr, input)
         }
-        10 => {
+        opcode::LESS => {
             let instr = Instr::Less {
                 to: form.first(),
                 left: form.second(),
@@ -107,7 +108,7 @@ pub(crate) fn act_quickly<V: CodeView>(
             };
             number_quickly(registers, view, instr, input)
         }
-        11 => {
+        opcode::LESS_EQ => {
             let instr = Instr::LessEq {
                 to: form.first(),
                 left: form.second(),
@@ -115,42 +116,42 @@ pub(crate) fn act_quickly<V: CodeView>(
             };
             number_quickly(registers, view, instr, input)
         }
-        12 => {
+        opcode::FLIP => {
             let instr = Instr::Flip {
                 to: form.first(),
                 from: form.second(),
             };
             number_quickly(registers, view, instr, input)
         }
-        13 => {
+        opcode::IN_RANGE => {
             let instr = Instr::InRange {
                 value: form.first(),
                 range: form.second(),
             };
             control_quickly(registers, view, instr, input)
         }
-        14 => {
+        opcode::LOCAL => {
             let instr = Instr::Local {
                 to: form.first(),
                 first: form.second(),
             };
             place_quickly(registers, view, instr, input)
         }
-        15 => {
+        opcode::GLOBAL => {
             let instr = Instr::Global {
                 to: form.first(),
                 first: form.second(),
             };
             place_quickly(registers, view, instr, input)
         }
-        16 => {
+        opcode::SAME => {
             let instr = Instr::Same {
                 to: form.first(),
                 from: form.second(),
             };
             place_quickly(registers, view, instr, input)
         }
-        17 => {
+        opcode::FIELD => {
             let instr = Instr::Field {
                 to: form.first(),
                 from: form.second(),
@@ -158,7 +159,7 @@ pub(crate) fn act_quickly<V: CodeView>(
             };
             place_quickly(registers, view, instr, input)
         }
-        18 => {
+        opcode::INDEX => {
             let instr = Instr::Index {
                 to: form.first(),
                 from: form.second(),
@@ -167,28 +168,28 @@ pub(crate) fn act_quickly<V: CodeView>(
             };
             place_quickly(registers, view, instr, input)
         }
-        19 => {
+        opcode::LOAD => {
             let instr = Instr::Load {
                 to: form.first(),
                 from: form.second(),
             };
             number_quickly(registers, view, instr, input)
         }
-        20 => {
+        opcode::STORE => {
             let instr = Instr::Store {
                 to: form.first(),
                 from: form.second(),
             };
             cell_quickly(registers, view, instr, input)
         }
-        21 => {
+        opcode::KNOWN => {
             let instr = Instr::Known {
                 to: form.first(),
                 of: form.second(),
             };
             number_quickly(registers, view, instr, input)
         }
-        22 => {
+        opcode::BIND => {
             let instr = Instr::Bind {
                 place: form.first(),
                 value: form.second(),
@@ -196,7 +197,7 @@ pub(crate) fn act_quickly<V: CodeView>(
             };
             cell_quickly(registers, view, instr, input)
         }
-        23 => {
+        opcode::UNIFY => {
             let instr = Instr::Unify {
                 left: form.first(),
                 left_range: form.second(),
@@ -205,39 +206,39 @@ pub(crate) fn act_quickly<V: CodeView>(
             };
             cell_quickly(registers, view, instr, input)
         }
-        26 => {
+        opcode::JUMP => {
             let instr = Instr::Jump { to: form.first() };
             control_quickly(registers, view, instr, input)
         }
-        27 => {
+        opcode::JUMP_ZERO => {
             let instr = Instr::JumpZero {
                 value: form.first(),
                 to: form.second(),
             };
             control_quickly(registers, view, instr, input)
         }
-        28 => {
+        opcode::CHECK => {
             let instr = Instr::Check {
                 value: form.first(),
             };
             control_quickly(registers, view, instr, input)
         }
-        29 => control_quickly(registers, view, Instr::Fail, input),
-        30 => {
+        opcode::FAIL => control_quickly(registers, view, Instr::Fail, input),
+        opcode::MARK => {
             let instr = Instr::Mark { to: form.first() };
             choice_quickly(registers, view, instr, input)
         }
-        31 => {
+        opcode::CUT => {
             let instr = Instr::Cut { mark: form.first() };
             choice_quickly(registers, view, instr, input)
         }
-        32 => {
+        opcode::CHOOSE => {
             let instr = Instr::Choose {
                 resume: form.first(),
             };
             choice_quickly(registers, view, instr, input)
         }
-        37 => {
+        opcode::CALL => {
             let instr = Instr::Call {
                 routine: form.first(),
                 first: form.second(),
@@ -245,14 +246,14 @@ pub(crate) fn act_quickly<V: CodeView>(
             };
             call_quickly(registers, view, instr, input)
         }
-        38 => call_quickly(registers, view, Instr::Return, input),
-        39 => {
+        opcode::RETURN => call_quickly(registers, view, Instr::Return, input),
+        opcode::RETURN_VALUE => {
             let instr = Instr::ReturnValue {
                 value: form.first(),
             };
             call_quickly(registers, view, instr, input)
         }
-        48 => {
+        opcode::STEP => {
             let instr = Instr::Step {
                 counter: form.first(),
                 limit: form.second(),

@@ -12,7 +12,7 @@ use Rattle.alma_code.specs.declared.step.Step.{Step}
 use Rattle.alma_code.specs.Fits.{IsContent}
 use Rattle.alma_code.specs.Kinds.{is_place, is_link}
 use Rattle.alma_code.specs.Machine.{Mode, Going, Failing, Ended, State, StepResult, number, place, content, link, mark, slot_in, as_place}
-use Rattle.alma_code.specs.Machine.{put_number, put_place, put_link, ends_in_fault}
+use Rattle.alma_code.specs.Machine.{put_number, put_place, put_link, ends_in_fault, no_case, no_return}
 use Rattle.alma_code.specs.Picture.{PlainFrame, no_frame, last_frame}
 use Rattle.alma_code.specs.Rules.{place_length}
 use Rattle.alma_memory.specs.Machine.{MachinePicture}
@@ -149,9 +149,9 @@ pub record HasMark (now : List PlainFrame) (n : ℕ) : Type 0 where
   pub kind : slice_get (last_frame now).kinds n ≡ Some slot.Mark
   pub content : HoldsMark (get_or (last_frame now).cells n cell.Unset)
 
--- the number of the fault NoCase or of the fault NoReturn
-abbrev pub IsNumbered : ℕ → Type 0
-IsNumbered number = (nat_eq number 5 || nat_eq number 6) ≡ true
+-- the number of a fault that code may name: of NoCase or of NoReturn
+abbrev pub IsFaultNumber : ℕ → Type 0
+IsFaultNumber number = (nat_eq number no_case || nat_eq number no_return) ≡ true
 
 -- ---- what a part of a step gives, whatever comes after it
 

@@ -1,5 +1,5 @@
 // The cells at places: read, stored and bound.
-ghost use Rattle.alma_code.specs.Machine.{number, place, content, store, binds_content, with_known_content, is_known, quiet_step};
+ghost use Rattle.alma_code.specs.Machine.{number, place, content, store, binds_content, is_known, quiet_step};
 ghost use Rattle.alma_base.specs.Numbers.{bit};
 ghost use Rattle.alma_machine_acts.specs.Acts.{Acts};
 ghost use Rattle.alma_machine_acts.specs.Rows.{state_of, HasNumber, HasNumberIn, HasOneCell, Gives};
@@ -72,8 +72,8 @@ impl<M: MachineMemory> Registers<M> {
             (content s place.frame place.slot (λ u. binds_content s place range.now number u)) }
     {
         match self.content(place.frame, place.slot) {
-            Some(with_known_content) => {
-                if with_known_content != number {
+            Some(known) => {
+                if known != number {
                     self.mode = Mode::Failing;
                 }
                 Ok(Step::Went)

@@ -14,9 +14,11 @@ pub trait CodeView {
 
     type Routine: Head + Copy;
 
+    /// How many instructions it has.
     fn code_count(&self) -> u32
         ensures { result ≡ length (code self.now).instrs };
 
+    /// The instruction at an address.
     fn instr(&self, at: u32) -> Instr
         requires { at < length (code self.now).instrs }
         ensures { slice_get (code self.now).instrs at ≡ Some result };
@@ -26,13 +28,15 @@ pub trait CodeView {
         requires { at < length (code self.now).instrs }
         ensures { slice_get (code self.now).instrs at ≡ Some (instr_of_record result) };
 
+    /// A range of its table, or none past the last.
     fn range(&self, i: u32) -> Option<Range>
         ensures { result ≡ slice_get (code self.now).ranges i };
 
+    /// The bytes of a text, or none past the last.
     fn text(&self, i: u32) -> Option<&[u8]>
         ensures { option_map (λ text. text.now) result ≡ slice_get (code self.now).texts i };
 
-    /// The head of a routine.
+    /// The head of a routine, or none past the last.
     fn routine(&self, i: u32) -> Option<Self::Routine>
         ensures { option_map Self.Routine.head result ≡ slice_get (map
             (λ r. r.head) (code self.now).routines) i };

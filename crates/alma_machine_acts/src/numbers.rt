@@ -112,10 +112,10 @@ impl<M: MachineMemory> Registers<M> {
         div_down(x, y).ok_or(RunFault::Overflow)
     }
 
-    /// What the quotient of two numbers, rounded down, leaves.
+    /// The remainder of two numbers, where the quotient is rounded down.
     #[inline(always)]
     #[tactic(auto, using(crate::proofs::Words::tests, std::proofs::lemmas::Int::ints, std::proofs::lemmas::Grind::common_steps))]
-    pub fn rest(&self, left: u32, right: u32) -> Result<i64, RunFault>
+    pub fn remainder(&self, left: u32, right: u32) -> Result<i64, RunFault>
         requires left { HasNumber (M.picture self.now.memory).now left }
         requires right { HasNumber (M.picture self.now.memory).now right }
         ensures { Gives (M.picture self.now.memory).now (λ s k. number s left (λ x. number s right

@@ -6,21 +6,21 @@ ghost use Rattle.alma_base.specs.Numbers.{is_zero};
 ghost use Rattle.alma_base.specs.Value.{value_text};
 ghost use Rattle.alma_code.specs.Machine.{number, prints_bytes, run_faults};
 ghost use Rattle.alma_machine_acts.specs.Acts.{ActsWith};
-ghost use Rattle.alma_machine_acts.specs.Rows.{state_of, HasNumber, IsNumbered};
+ghost use Rattle.alma_machine_acts.specs.Rows.{state_of, HasNumber, IsFaultNumber};
 
 use crate::registers::Registers;
 use alma_base::{NoMemory, RunFault, Value, write_value};
-use alma_code::{End, Step};
+use alma_code::{End, NO_CASE, NO_RETURN, Step};
 use alma_memory::MachineMemory;
 
-/// The fault of a number.
-pub fn numbered(number: u32) -> RunFault
-    requires { IsNumbered number }
+/// The fault that a Fault instruction names by its number: `NO_CASE` or `NO_RETURN`.
+pub fn fault_of_number(number: u32) -> RunFault
+    requires { IsFaultNumber number }
     ensures { slice_get run_faults number ≡ Some result }
 {
     match number {
-        5 => RunFault::NoCase,
-        6 => RunFault::NoReturn,
+        NO_CASE => RunFault::NoCase,
+        NO_RETURN => RunFault::NoReturn,
         _ => unreachable!(),
     }
 }

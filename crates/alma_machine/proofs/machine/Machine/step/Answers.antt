@@ -16,7 +16,7 @@ invariant_of-self c =
       λ on. stands_after c.advance-step.result code c.self.inside.input.now old new c.advance-step.new.printed.items
           (c.self.invariant.1 running)
           c.advance-step.ensures.step c.advance-step.ensures.mode c.advance-step.ensures.counted c.advance-step.ensures.choices
-          c.advance-step.ensures.fails (sym c.goes_on-self-inside.ensures ∙ on),
+          c.advance-step.ensures.fails (sym c.runs_after-self-inside.ensures ∙ on),
     )
 
 pub returns-clause-step : goal.returns-clause-step

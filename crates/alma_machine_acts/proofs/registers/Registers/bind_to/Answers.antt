@@ -31,10 +31,10 @@ returns-else-range-number g c =
     ∙ sym (c.in-None.ensures s (λ u. binds_content s p r v u) refl
     ∙ ap (λ b. if_true b (λ _. store s p.frame p.slot v quiet_step) (λ _. ends_in_fault fault.Range s)) inside))
 
-pub returns-then-with_known_content-number : goal.returns-then-with_known_content-number
-returns-then-with_known_content-number g c =
+pub returns-then-known-number : goal.returns-then-known-number
+returns-then-known-number g c =
     let s = state_of g.M.MachineMemory.picture c.args.self.now in
-    let u = c.in-Some.with_known_content in
+    let u = c.in-Some.known in
     let v = c.args.number in
     record {
       step = sym (c.in-Some.ensures s (λ u. binds_content s c.args.place c.args.range.now v u) refl
@@ -43,10 +43,10 @@ returns-then-with_known_content-number g c =
       past = search rules;
     }
 
-pub returns-else-with_known_content-number : goal.returns-else-with_known_content-number
-returns-else-with_known_content-number g c =
+pub returns-else-known-number : goal.returns-else-known-number
+returns-else-known-number g c =
     let s = state_of g.M.MachineMemory.picture c.args.self.now in
-    let u = c.in-Some.with_known_content in
+    let u = c.in-Some.known in
     let v = c.args.number in
     record {
       step = sym (c.in-Some.ensures s (λ u. binds_content s c.args.place c.args.range.now v u) refl

@@ -4,7 +4,7 @@ use Rattle.alma_base.specs.declared.fault.RunFault.TheVariants as fault
 use Rattle.alma_base.specs.Numbers.{is_zero, int_eq, bit, div_down_of, mod_down_of}
 use Rattle.alma_code.specs.Machine.{act, number, place, content, with_known_content, is_known, integer_result, ends_in_fault}
 use Rattle.alma_machine_acts.proofs.Words.{gives_put}
-use Rattle.alma_machine.proofs.dispatch.computed.Goals as goal
+use Rattle.alma_machine.proofs.dispatch.computation.Goals as goal
 
 pub returns-in-Add-clause-number : goal.returns-in-Add-clause-number
 unfolding act
@@ -46,7 +46,7 @@ returns-in-Mod-clause-number g c code input s same =
     ∙ gives_put (g.M.MachineMemory.picture c.args.registers.now.memory).now
     (λ s k. number s c.in-Mod.left (λ x. number s c.in-Mod.right
     (λ y. if_true (is_zero y) (λ _. ends_in_fault fault.ZeroDivide s) (λ _. integer_result s (mod_down_of x y) k)))) s c.in-Mod.to
-    c.rest.result same c.rest.ensures
+    c.remainder.result same c.remainder.ensures
 
 pub returns-in-Neg-clause-number : goal.returns-in-Neg-clause-number
 unfolding act
