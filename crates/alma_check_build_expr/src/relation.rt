@@ -85,17 +85,15 @@ fn equation(
         (meaning_view right.meaning)) }
 {
     let first = left.shape;
+    let second = right.shape;
     match left.meaning {
         Meaning::Place(place) => match right.meaning {
-            Meaning::Place(other) if env.is_structured(first) => {
-                Ok(Meaning::Test(Test::SameCells(place, other)))
+            Meaning::Place(other) => {
+                if env.is_structured(first) {
+                    return Ok(Meaning::Test(Test::SameCells(place, other)));
+                }
+                Ok(Meaning::Test(Test::Unify(place, env.range(first), other, env.range(second))))
             }
-            Meaning::Place(other) => Ok(Meaning::Test(Test::Unify(
-                place,
-                env.range(first),
-                other,
-                env.range(right.shape),
-            ))),
             Meaning::Plain(value) => Ok(Meaning::Test(Test::Bind(
                 place,
                 value,
