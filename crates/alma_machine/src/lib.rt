@@ -3,7 +3,6 @@
 
 mod dispatch;
 mod machine;
-mod opcode;
 mod quick;
 mod quick_act;
 mod quick_calls;

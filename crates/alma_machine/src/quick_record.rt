@@ -7,7 +7,6 @@ ghost use Rattle.alma_machine.specs.Quick.{Quickly};
 ghost use Rattle.alma_machine.specs.View.{run_state};
 ghost use Rattle.alma_object.specs.View.{instr_of_record};
 
-use crate::opcode;
 use crate::quick_act::{control_quickly, number_quickly, place_quickly};
 use crate::quick_calls::call_quickly;
 use crate::quick_cells::{cell_quickly, choice_quickly};
@@ -15,6 +14,7 @@ use alma_code::Instr;
 use alma_machine_acts::{CodeView, Registers};
 use alma_memory::Memory;
 use alma_object::InstrRecord;
+use alma_object_format::opcode;
 
 /// What the instruction of a record does, with the address already at the next one, if it is one
 /// that is made at once. Of the record only the opcode is read, and the words that the form uses.

@@ -5,6 +5,7 @@ ghost use Rattle.alma_object_format.specs.Instrs.{const_bytes, instr_bytes, is_i
 ghost use Rattle.alma_object_format.specs.Lengths.{instr_len};
 
 use crate::bytes::{i64_at, push_i64, push_words, u32_at};
+use crate::opcode;
 use alma_base::NoMemory;
 use alma_code::{Instr, LATEST_VERSION};
 
@@ -55,7 +56,7 @@ fn push_three(out: &mut Vec<u8>, opcode: u8, a: u32, b: u32, c: u32) -> Result<(
 fn push_const(out: &mut Vec<u8>, to: u32, value: i64) -> Result<(), NoMemory>
     ensures { OnOk result (out.new.items ≡ out.old.items ++ const_bytes to value) }
 {
-    out.push(1)?;
+    out.push(opcode::CONST)?;
     push_words(out, &[to])?;
     push_i64(out, value)?;
     push_words(out, &[0])?;
@@ -69,76 +70,76 @@ pub fn push_instr(out: &mut Vec<u8>, instr: Instr) -> Result<(), NoMemory>
 {
     match instr {
         Instr::Const { to, value } => push_const(out, to, value),
-        Instr::Move { to, from } => push_two(out, 2, to, from),
-        Instr::Add { to, left, right } => push_three(out, 3, to, left, right),
-        Instr::Sub { to, left, right } => push_three(out, 4, to, left, right),
-        Instr::Mul { to, left, right } => push_three(out, 5, to, left, right),
-        Instr::Div { to, left, right } => push_three(out, 6, to, left, right),
-        Instr::Mod { to, left, right } => push_three(out, 7, to, left, right),
-        Instr::Neg { to, from } => push_two(out, 8, to, from),
-        Instr::Equal { to, left, right } => push_three(out, 9, to, left, right),
-        Instr::Less { to, left, right } => push_three(out, 10, to, left, right),
-        Instr::LessEq { to, left, right } => push_three(out, 11, to, left, right),
-        Instr::Flip { to, from } => push_two(out, 12, to, from),
-        Instr::InRange { value, range } => push_two(out, 13, value, range),
-        Instr::Local { to, first } => push_two(out, 14, to, first),
-        Instr::Global { to, first } => push_two(out, 15, to, first),
-        Instr::Same { to, from } => push_two(out, 16, to, from),
-        Instr::Field { to, from, offset } => push_three(out, 17, to, from, offset),
+        Instr::Move { to, from } => push_two(out, opcode::MOVE, to, from),
+        Instr::Add { to, left, right } => push_three(out, opcode::ADD, to, left, right),
+        Instr::Sub { to, left, right } => push_three(out, opcode::SUB, to, left, right),
+        Instr::Mul { to, left, right } => push_three(out, opcode::MUL, to, left, right),
+        Instr::Div { to, left, right } => push_three(out, opcode::DIV, to, left, right),
+        Instr::Mod { to, left, right } => push_three(out, opcode::MOD, to, left, right),
+        Instr::Neg { to, from } => push_two(out, opcode::NEG, to, from),
+        Instr::Equal { to, left, right } => push_three(out, opcode::EQUAL, to, left, right),
+        Instr::Less { to, left, right } => push_three(out, opcode::LESS, to, left, right),
+        Instr::LessEq { to, left, right } => push_three(out, opcode::LESS_EQ, to, left, right),
+        Instr::Flip { to, from } => push_two(out, opcode::FLIP, to, from),
+        Instr::InRange { value, range } => push_two(out, opcode::IN_RANGE, value, range),
+        Instr::Local { to, first } => push_two(out, opcode::LOCAL, to, first),
+        Instr::Global { to, first } => push_two(out, opcode::GLOBAL, to, first),
+        Instr::Same { to, from } => push_two(out, opcode::SAME, to, from),
+        Instr::Field { to, from, offset } => push_three(out, opcode::FIELD, to, from, offset),
         Instr::Index {
             to,
             from,
             index,
             range,
-        } => push_record(out, 18, &[to, from, index, range]),
-        Instr::Load { to, from } => push_two(out, 19, to, from),
-        Instr::Store { to, from } => push_two(out, 20, to, from),
-        Instr::Known { to, of } => push_two(out, 21, to, of),
+        } => push_record(out, opcode::INDEX, &[to, from, index, range]),
+        Instr::Load { to, from } => push_two(out, opcode::LOAD, to, from),
+        Instr::Store { to, from } => push_two(out, opcode::STORE, to, from),
+        Instr::Known { to, of } => push_two(out, opcode::KNOWN, to, of),
         Instr::Bind {
             place,
             value,
             range,
-        } => push_three(out, 22, place, value, range),
+        } => push_three(out, opcode::BIND, place, value, range),
         Instr::Unify {
             left,
             left_range,
             right,
             right_range,
-        } => push_record(out, 23, &[left, left_range, right, right_range]),
-        Instr::CopyCells { to, from } => push_two(out, 24, to, from),
-        Instr::SameCells { left, right } => push_two(out, 25, left, right),
-        Instr::Jump { to } => push_one(out, 26, to),
-        Instr::JumpZero { value, to } => push_two(out, 27, value, to),
-        Instr::Check { value } => push_one(out, 28, value),
-        Instr::Fail => push_none(out, 29),
-        Instr::Mark { to } => push_one(out, 30, to),
-        Instr::Cut { mark } => push_one(out, 31, mark),
-        Instr::Choose { resume } => push_one(out, 32, resume),
-        Instr::Forall { mark, resume } => push_two(out, 33, mark, resume),
-        Instr::Overlay { mark, resume } => push_two(out, 34, mark, resume),
-        Instr::Keep { mark } => push_one(out, 35, mark),
-        Instr::Finish => push_none(out, 36),
-        Instr::Call { routine, first, to } => push_three(out, 37, routine, first, to),
-        Instr::Return => push_none(out, 38),
-        Instr::ReturnValue { value } => push_one(out, 39, value),
-        Instr::ReadInt { place, range } => push_two(out, 40, place, range),
-        Instr::ReadChar { place, range } => push_two(out, 41, place, range),
-        Instr::WriteInt { value } => push_one(out, 42, value),
-        Instr::WriteChar { value } => push_one(out, 43, value),
-        Instr::WriteBool { value } => push_one(out, 44, value),
-        Instr::WriteText { text } => push_one(out, 45, text),
-        Instr::WriteLine => push_none(out, 46),
-        Instr::Fault { number } => push_one(out, 47, number),
+        } => push_record(out, opcode::UNIFY, &[left, left_range, right, right_range]),
+        Instr::CopyCells { to, from } => push_two(out, opcode::COPY_CELLS, to, from),
+        Instr::SameCells { left, right } => push_two(out, opcode::SAME_CELLS, left, right),
+        Instr::Jump { to } => push_one(out, opcode::JUMP, to),
+        Instr::JumpZero { value, to } => push_two(out, opcode::JUMP_ZERO, value, to),
+        Instr::Check { value } => push_one(out, opcode::CHECK, value),
+        Instr::Fail => push_none(out, opcode::FAIL),
+        Instr::Mark { to } => push_one(out, opcode::MARK, to),
+        Instr::Cut { mark } => push_one(out, opcode::CUT, mark),
+        Instr::Choose { resume } => push_one(out, opcode::CHOOSE, resume),
+        Instr::Forall { mark, resume } => push_two(out, opcode::FORALL, mark, resume),
+        Instr::Overlay { mark, resume } => push_two(out, opcode::OVERLAY, mark, resume),
+        Instr::Keep { mark } => push_one(out, opcode::KEEP, mark),
+        Instr::Finish => push_none(out, opcode::FINISH),
+        Instr::Call { routine, first, to } => push_three(out, opcode::CALL, routine, first, to),
+        Instr::Return => push_none(out, opcode::RETURN),
+        Instr::ReturnValue { value } => push_one(out, opcode::RETURN_VALUE, value),
+        Instr::ReadInt { place, range } => push_two(out, opcode::READ_INT, place, range),
+        Instr::ReadChar { place, range } => push_two(out, opcode::READ_CHAR, place, range),
+        Instr::WriteInt { value } => push_one(out, opcode::WRITE_INT, value),
+        Instr::WriteChar { value } => push_one(out, opcode::WRITE_CHAR, value),
+        Instr::WriteBool { value } => push_one(out, opcode::WRITE_BOOL, value),
+        Instr::WriteText { text } => push_one(out, opcode::WRITE_TEXT, text),
+        Instr::WriteLine => push_none(out, opcode::WRITE_LINE),
+        Instr::Fault { number } => push_one(out, opcode::FAULT, number),
         Instr::Step {
             counter,
             limit,
             by,
             out: past,
-        } => push_record(out, 48, &[counter, limit, by, past]),
-        Instr::Own { to } => push_one(out, 49, to),
-        Instr::Chain { to, link, slot } => push_three(out, 50, to, link, slot),
-        Instr::Outer { to, link, first } => push_three(out, 51, to, link, first),
-        Instr::OuterSame { to, link, slot } => push_three(out, 52, to, link, slot),
+        } => push_record(out, opcode::STEP, &[counter, limit, by, past]),
+        Instr::Own { to } => push_one(out, opcode::OWN, to),
+        Instr::Chain { to, link, slot } => push_three(out, opcode::CHAIN, to, link, slot),
+        Instr::Outer { to, link, first } => push_three(out, opcode::OUTER, to, link, first),
+        Instr::OuterSame { to, link, slot } => push_three(out, opcode::OUTER_SAME, to, link, slot),
     }
 }
 
@@ -146,7 +147,11 @@ pub fn push_instr(out: &mut Vec<u8>, instr: Instr) -> Result<(), NoMemory>
 fn last_opcode(version: u16) -> u8
     ensures { result ≡ last_opcode version }
 {
-    if version == LATEST_VERSION { 52 } else { 48 }
+    if version == LATEST_VERSION {
+        opcode::OUTER_SAME
+    } else {
+        opcode::STEP
+    }
 }
 
 /// Whether the record at an offset is that of an instruction of the version.
@@ -202,22 +207,22 @@ fn number_instr(bytes: &[u8], at: usize) -> Instr
     let left = u32_at(bytes, at + 5);
     let right = u32_at(bytes, at + 9);
     match bytes[at] {
-        1 => Instr::Const {
+        opcode::CONST => Instr::Const {
             to,
             value: i64_at(bytes, at + 5),
         },
-        2 => Instr::Move { to, from: left },
-        3 => Instr::Add { to, left, right },
-        4 => Instr::Sub { to, left, right },
-        5 => Instr::Mul { to, left, right },
-        6 => Instr::Div { to, left, right },
-        7 => Instr::Mod { to, left, right },
-        8 => Instr::Neg { to, from: left },
-        9 => Instr::Equal { to, left, right },
-        10 => Instr::Less { to, left, right },
-        11 => Instr::LessEq { to, left, right },
-        12 => Instr::Flip { to, from: left },
-        13 => Instr::InRange {
+        opcode::MOVE => Instr::Move { to, from: left },
+        opcode::ADD => Instr::Add { to, left, right },
+        opcode::SUB => Instr::Sub { to, left, right },
+        opcode::MUL => Instr::Mul { to, left, right },
+        opcode::DIV => Instr::Div { to, left, right },
+        opcode::MOD => Instr::Mod { to, left, right },
+        opcode::NEG => Instr::Neg { to, from: left },
+        opcode::EQUAL => Instr::Equal { to, left, right },
+        opcode::LESS => Instr::Less { to, left, right },
+        opcode::LESS_EQ => Instr::LessEq { to, left, right },
+        opcode::FLIP => Instr::Flip { to, from: left },
+        opcode::IN_RANGE => Instr::InRange {
             value: to,
             range: left,
         },
@@ -239,36 +244,36 @@ fn place_instr(bytes: &[u8], at: usize) -> Instr
     let c = u32_at(bytes, at + 9);
     let d = u32_at(bytes, at + 13);
     match bytes[at] {
-        14 => Instr::Local { to: a, first: b },
-        15 => Instr::Global { to: a, first: b },
-        16 => Instr::Same { to: a, from: b },
-        17 => Instr::Field {
+        opcode::LOCAL => Instr::Local { to: a, first: b },
+        opcode::GLOBAL => Instr::Global { to: a, first: b },
+        opcode::SAME => Instr::Same { to: a, from: b },
+        opcode::FIELD => Instr::Field {
             to: a,
             from: b,
             offset: c,
         },
-        18 => Instr::Index {
+        opcode::INDEX => Instr::Index {
             to: a,
             from: b,
             index: c,
             range: d,
         },
-        19 => Instr::Load { to: a, from: b },
-        20 => Instr::Store { to: a, from: b },
-        21 => Instr::Known { to: a, of: b },
-        22 => Instr::Bind {
+        opcode::LOAD => Instr::Load { to: a, from: b },
+        opcode::STORE => Instr::Store { to: a, from: b },
+        opcode::KNOWN => Instr::Known { to: a, of: b },
+        opcode::BIND => Instr::Bind {
             place: a,
             value: b,
             range: c,
         },
-        23 => Instr::Unify {
+        opcode::UNIFY => Instr::Unify {
             left: a,
             left_range: b,
             right: c,
             right_range: d,
         },
-        24 => Instr::CopyCells { to: a, from: b },
-        25 => Instr::SameCells { left: a, right: b },
+        opcode::COPY_CELLS => Instr::CopyCells { to: a, from: b },
+        opcode::SAME_CELLS => Instr::SameCells { left: a, right: b },
         _ => Instr::Fail,
     }
 }
@@ -285,17 +290,17 @@ fn control_instr(bytes: &[u8], at: usize) -> Instr
     let a = u32_at(bytes, at + 1);
     let b = u32_at(bytes, at + 5);
     match bytes[at] {
-        26 => Instr::Jump { to: a },
-        27 => Instr::JumpZero { value: a, to: b },
-        28 => Instr::Check { value: a },
-        29 => Instr::Fail,
-        30 => Instr::Mark { to: a },
-        31 => Instr::Cut { mark: a },
-        32 => Instr::Choose { resume: a },
-        33 => Instr::Forall { mark: a, resume: b },
-        34 => Instr::Overlay { mark: a, resume: b },
-        35 => Instr::Keep { mark: a },
-        36 => Instr::Finish,
+        opcode::JUMP => Instr::Jump { to: a },
+        opcode::JUMP_ZERO => Instr::JumpZero { value: a, to: b },
+        opcode::CHECK => Instr::Check { value: a },
+        opcode::FAIL => Instr::Fail,
+        opcode::MARK => Instr::Mark { to: a },
+        opcode::CUT => Instr::Cut { mark: a },
+        opcode::CHOOSE => Instr::Choose { resume: a },
+        opcode::FORALL => Instr::Forall { mark: a, resume: b },
+        opcode::OVERLAY => Instr::Overlay { mark: a, resume: b },
+        opcode::KEEP => Instr::Keep { mark: a },
+        opcode::FINISH => Instr::Finish,
         _ => Instr::Fail,
     }
 }
@@ -314,22 +319,22 @@ fn call_instr(bytes: &[u8], at: usize) -> Instr
     let c = u32_at(bytes, at + 9);
     let d = u32_at(bytes, at + 13);
     match bytes[at] {
-        37 => Instr::Call {
+        opcode::CALL => Instr::Call {
             routine: a,
             first: b,
             to: c,
         },
-        38 => Instr::Return,
-        39 => Instr::ReturnValue { value: a },
-        40 => Instr::ReadInt { place: a, range: b },
-        41 => Instr::ReadChar { place: a, range: b },
-        42 => Instr::WriteInt { value: a },
-        43 => Instr::WriteChar { value: a },
-        44 => Instr::WriteBool { value: a },
-        45 => Instr::WriteText { text: a },
-        46 => Instr::WriteLine,
-        47 => Instr::Fault { number: a },
-        48 => Instr::Step {
+        opcode::RETURN => Instr::Return,
+        opcode::RETURN_VALUE => Instr::ReturnValue { value: a },
+        opcode::READ_INT => Instr::ReadInt { place: a, range: b },
+        opcode::READ_CHAR => Instr::ReadChar { place: a, range: b },
+        opcode::WRITE_INT => Instr::WriteInt { value: a },
+        opcode::WRITE_CHAR => Instr::WriteChar { value: a },
+        opcode::WRITE_BOOL => Instr::WriteBool { value: a },
+        opcode::WRITE_TEXT => Instr::WriteText { text: a },
+        opcode::WRITE_LINE => Instr::WriteLine,
+        opcode::FAULT => Instr::Fault { number: a },
+        opcode::STEP => Instr::Step {
             counter: a,
             limit: b,
             by: c,
@@ -352,18 +357,18 @@ fn link_instr(bytes: &[u8], at: usize) -> Instr
     let b = u32_at(bytes, at + 5);
     let c = u32_at(bytes, at + 9);
     match bytes[at] {
-        49 => Instr::Own { to: a },
-        50 => Instr::Chain {
+        opcode::OWN => Instr::Own { to: a },
+        opcode::CHAIN => Instr::Chain {
             to: a,
             link: b,
             slot: c,
         },
-        51 => Instr::Outer {
+        opcode::OUTER => Instr::Outer {
             to: a,
             link: b,
             first: c,
         },
-        52 => Instr::OuterSame {
+        opcode::OUTER_SAME => Instr::OuterSame {
             to: a,
             link: b,
             slot: c,

@@ -6,6 +6,7 @@ mod fault;
 mod header;
 mod instr;
 mod lengths;
+pub mod opcode;
 mod record;
 mod walk;
 

@@ -1,5 +1,4 @@
-// The opcodes of the forms that are made at once, each by the name of its form. docs/FORMATS.md has
-// all 52.
+//! The opcodes, each by the name of its form. The forms behind `STEP` are of the latest version alone.
 
 pub const CONST: u8 = 1;
 
@@ -47,6 +46,10 @@ pub const BIND: u8 = 22;
 
 pub const UNIFY: u8 = 23;
 
+pub const COPY_CELLS: u8 = 24;
+
+pub const SAME_CELLS: u8 = 25;
+
 pub const JUMP: u8 = 26;
 
 pub const JUMP_ZERO: u8 = 27;
@@ -61,10 +64,42 @@ pub const CUT: u8 = 31;
 
 pub const CHOOSE: u8 = 32;
 
+pub const FORALL: u8 = 33;
+
+pub const OVERLAY: u8 = 34;
+
+pub const KEEP: u8 = 35;
+
+pub const FINISH: u8 = 36;
+
 pub const CALL: u8 = 37;
 
 pub const RETURN: u8 = 38;
 
 pub const RETURN_VALUE: u8 = 39;
 
+pub const READ_INT: u8 = 40;
+
+pub const READ_CHAR: u8 = 41;
+
+pub const WRITE_INT: u8 = 42;
+
+pub const WRITE_CHAR: u8 = 43;
+
+pub const WRITE_BOOL: u8 = 44;
+
+pub const WRITE_TEXT: u8 = 45;
+
+pub const WRITE_LINE: u8 = 46;
+
+pub const FAULT: u8 = 47;
+
 pub const STEP: u8 = 48;
+
+pub const OWN: u8 = 49;
+
+pub const CHAIN: u8 = 50;
+
+pub const OUTER: u8 = 51;
+
+pub const OUTER_SAME: u8 = 52;
