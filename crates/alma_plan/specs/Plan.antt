@@ -47,6 +47,9 @@ no_memory program = tells program exit.no_memory (codes "out of memory")
 abbrev pub too_long : (program : List ℕ) → Ending
 too_long program = tells program exit.too_long (codes "too long")
 
+abbrev pub steps_out : (program : List ℕ) → Ending
+steps_out program = tells program exit.steps_out (codes "steps out")
+
 -- success, without a word on err
 abbrev pub success : Ending
 success = ending_of exit.succeeded []

@@ -20,7 +20,7 @@ use Rattle.alma_lower.specs.CodeFor.{IsCodeFor}
 use Rattle.alma_source.specs.Texts.{refusal_text}
 use Rattle.alma_source.specs.Verdict.{Verdict, Accepted, Rejected, IsVerdict}
 use Rattle.alma_source.specs.declared.fault.SourceFault.{SourceFault}
-use Rattle.alma_plan.specs.Plan.{Due, Ending, Plan, Sense, Fetches, Judges, Reads, Ends, ending_of, silent, success, tells}
+use Rattle.alma_plan.specs.Plan.{Due, Ending, Plan, Sense, Fetches, Judges, Reads, Ends, ending_of, silent, steps_out, success, tells}
 
 -- ---- what is due
 
@@ -53,9 +53,9 @@ module _ (program : List ℕ) (failed : Ending) where
   -- that of one which is left in this mode
   abbrev pub mode_end : Mode → (line : ℕ) → Ending
   mode_end (Ended end) line = end_of end line
-  mode_end Going line = tells program exit.steps_out (codes "steps out")
-  mode_end Failing line = tells program exit.steps_out (codes "steps out")
-  mode_end Stuck line = tells program exit.steps_out (codes "steps out")
+  mode_end Going line = steps_out program
+  mode_end Failing line = steps_out program
+  mode_end Stuck line = steps_out program
 
   -- what a run of code on an input for so many steps comes to
   abbrev pub code_due : PlainCode → (input : List ℕ) → (steps : ℕ) → Due

@@ -11,7 +11,7 @@ use Rattle.alma_plan.specs.Refusals.{refusal_end}
 use Rattle.alma_plan.specs.declared.refusal.Refusal.{Refusal}
 use Rattle.alma_plan.specs.declared.refusal.Refusal.TheVariants.{Stopped}
 use Rattle.alma_plan.specs.declared.stop.Stop.TheVariants.{Memory}
-use Rattle.alma_pool.specs.Due.{program, opening, program_text}
+use Rattle.alma_pool.specs.Due.{program, open_objects, program_text}
 use Rattle.alma_pool.specs.Pool.{PlayerState, player_at_start, seen_of}
 
 -- the bytes of files, and the codes of verified views
@@ -23,7 +23,7 @@ codes_of verified = map code_of_verified verified
 
 -- memory ran out, or it is the end that these objects bring about
 abbrev pub IsRefused : (objects : List (List ℕ)) → Refusal → Type 0
-IsRefused objects refusal = (refusal ≡ Stopped Memory) ⊎ (opening [] objects ≡ Err (refusal_end program refusal))
+IsRefused objects refusal = (refusal ≡ Stopped Memory) ⊎ (open_objects [] objects ≡ Err (refusal_end program refusal))
 
 -- codes before their first turn, on one input
 abbrev pub players_at_start : List PlainCode → (input : List ℕ) → List PlayerState
