@@ -31,6 +31,7 @@ behind (x ∷ front) (y ∷ text) = cond (eqb x y) (behind front text) None
 abbrev pub names_steps : List ℕ → Bool
 names_steps text = is_numeral steps_digits greatest_steps text
 
+-- the number of steps that a text names, where there is one
 abbrev pub steps_named : Option (List ℕ) → Option ℕ
 steps_named None = None
 steps_named (Some text) = cond (names_steps text) (Some (value_of text)) None
@@ -59,6 +60,7 @@ abbrev pub unless_returns : (returns : Bool) → Program → (steps : ℕ) → P
 unless_returns true p steps = Ends (Tells (silent module_return))
 unless_returns false p steps = run_plan program (listing_of p) steps
 
+-- the same by the program
 abbrev pub list_plan : Program → (steps : ℕ) → Plan Verdict Last
 list_plan p steps = unless_returns (body_returns p) p steps
 
@@ -81,10 +83,12 @@ abbrev pub with_options : (file : List ℕ) → (options : List (List ℕ)) → 
 with_options file [] = file_plan file default_steps
 with_options file (option ∷ more) = with_steps file (steps_in option) more
 
+-- a word that may name a file, or that may not, and the words behind it
 abbrev pub with_file : (is_file : Bool) → (file : List ℕ) → (options : List (List ℕ)) → Plan Verdict Last
 with_file false file options = bad_word_plan 1
 with_file true file options = with_options file options
 
+-- a call with these words
 abbrev pub all_plan : (words : List (List ℕ)) → Plan Verdict Last
 all_plan [] = bad_word_plan 1
 all_plan (file ∷ options) = with_file (is_file_name file) file options

@@ -6,6 +6,7 @@ use Rattle.alma_all.specs.declared.end.AllEnd.{AllEnd}
 use Rattle.alma_all.specs.declared.end.AllEnd.TheVariants.{BadWord, Unread, ModuleReturn, Performed}
 use Rattle.alma_all.specs.All.{program, module_return}
 
+-- how a call ends whose words name this file
 abbrev pub all_end : (file : List ℕ) → AllEnd → Ending
 all_end file (BadWord word) = bad_word program word
 all_end file (Unread stop) = file_end program file stop

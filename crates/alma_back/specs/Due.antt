@@ -40,6 +40,7 @@ abbrev pub judged_by : Result (List Line) ℕ → (object : List ℕ) → Plan �
 judged_by (Err line) object = Ends (silent (bad_line line))
 judged_by (Ok lines) object = walk_plan (object_refusal program object) (object_code object) lines
 
+-- the same by the bytes of both
 abbrev pub verify_plan : (object script : List ℕ) → Plan ⊥ Due
 verify_plan object script = judged_by (lines_in script) object
 
@@ -57,6 +58,7 @@ with_script object [] = bad_word_plan 2
 with_script object (script ∷ []) = cond (is_file_name script) (fetch_plan object script) (bad_word_plan 2)
 with_script object (script ∷ word ∷ words) = cond (is_file_name script) (bad_word_plan 3) (bad_word_plan 2)
 
+-- a call with these words
 abbrev pub back_plan : (words : List (List ℕ)) → Plan ⊥ Due
 back_plan [] = bad_word_plan 1
 back_plan (object ∷ words) = cond (is_file_name object) (with_script object words) (bad_word_plan 1)

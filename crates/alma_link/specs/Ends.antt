@@ -15,11 +15,12 @@ use Rattle.alma_link.specs.declared.words.Request as words
 use Rattle.alma_link.specs.Link.{program, failure, join_refusal}
 use Rattle.alma_link.specs.Words.{Task, Run, Compile, Request, request}
 
--- the task and the request that words name
+-- the task that words name
 abbrev pub task_of : word_task.Task → Task
 task_of word.Run = Run
 task_of (word.Compile object) = Compile object.now
 
+-- the request that they name
 abbrev pub request_in : words.Request → Request
 request_in r = request (task_of r.task) (texts r.files.now)
 

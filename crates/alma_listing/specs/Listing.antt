@@ -133,5 +133,6 @@ EachReadsAlike lister = (p : Program) → program_reads (lister p) ≡ program_r
 abbrev pub ResultIsListing : Program → Program → Type 0
 ResultIsListing q p = (n : ℕ) (input : List ℕ) → (end_of (first (ev_program n q input)) ≡ CutOff → ⊥) → result n q input ≡ listing n p input
 
+-- and so it is with each program that lists another
 abbrev pub ListersGiveListings : Type 0
 ListersGiveListings = (q p : Program) → Lists q p → ResultIsListing q p

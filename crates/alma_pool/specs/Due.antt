@@ -55,6 +55,7 @@ bad_turn_behind programs seen (byte ∷ bytes) = unless (is_turn programs byte) 
 abbrev pub turn_in : (byte : ℕ) → List ℕ
 turn_in byte = cond (eqb byte 10) [] ((byte - 97) ∷ [])
 
+-- those of all bytes
 abbrev pub turns_in : List ℕ → List ℕ
 turns_in bytes = flat_map turn_in bytes
 
@@ -73,6 +74,7 @@ program_lines number ended output =
     codes "program " ++ (decimal number ++ (codes " "
     ++ (ended ++ (codes " bytes " ++ (decimal (length output) ++ (codes "\n" ++ (output ++ codes "\n")))))))
 
+-- the same by what is seen of its run
 abbrev pub program_text : (number : ℕ) → Lone → List ℕ
 program_text number l = program_lines number (end_text l.end) l.output
 
@@ -101,6 +103,7 @@ abbrev pub played_on : (reads : Bool) → List PlainCode → (turns : List ℕ) 
 played_on true all turns = Reads (λ input. prints (pool_text 0 all input turns))
 played_on false all turns = Ends (prints (pool_text 0 all [] turns))
 
+-- codes take turns, unless an object was refused
 abbrev pub play_plan : Result (List PlainCode) Ending → (turns : List ℕ) → Plan ⊥ Due
 play_plan (Ok all) turns = played_on (list_any code_reads all) all turns
 play_plan (Err end) turns = Ends (silent end)
@@ -114,6 +117,7 @@ abbrev pub judged_by : (bad : Option ℕ) → (turns : List ℕ) → (objects : 
 judged_by (Some turn) turns objects = Ends (silent (bad_turn turn))
 judged_by None turns objects = play_plan (open_objects [] objects) (turns_in turns)
 
+-- the first bad byte of the file of turns comes before any fault of an object
 abbrev pub verify_plan : (turns : List ℕ) → (objects : List (List ℕ)) → Plan ⊥ Due
 verify_plan turns objects = judged_by (bad_turn_behind (length objects) 0 turns) turns objects
 
@@ -131,9 +135,11 @@ abbrev pub fetch_plan : List (List ℕ) → Plan ⊥ Due
 fetch_plan [] = bad_word_plan 1
 fetch_plan (turns ∷ objects) = Fetches turns turns_limit (λ bytes. objects_plan bytes [] objects)
 
+-- words of which this is the first bad one, or none is
 abbrev pub words_plan : (bad : Option ℕ) → (words : List (List ℕ)) → Plan ⊥ Due
 words_plan (Some word) words = bad_word_plan word
 words_plan None words = fetch_plan words
 
+-- a call with these words
 abbrev pub pool_plan : (words : List (List ℕ)) → Plan ⊥ Due
 pool_plan words = words_plan (bad_word_behind 0 words) words

@@ -5,6 +5,7 @@ use Rattle.alma_pool.specs.declared.end.PoolEnd.{PoolEnd}
 use Rattle.alma_pool.specs.declared.end.PoolEnd.TheVariants.{Shown, BadTurn, Refused}
 use Rattle.alma_pool.specs.Due.{program, bad_turn}
 
+-- how a call ends
 abbrev pub pool_end : PoolEnd → Ending
 pool_end Shown = success
 pool_end (BadTurn turn) = bad_turn turn
