@@ -1,5 +1,5 @@
 -- What a run of a listing program lists.
-use Rattle.std.proofs.Common.{◌≡◌, ◌≤◌, ◌+◌, ◌*◌, ◌∙◌, ℕ, suc, List, [], ◌++◌, refl, sym, ap, arith, append_assoc}
+use Rattle.std.proofs.Common.{◌≡◌, ◌≤◌, ◌+◌, ◌∙◌, ℕ, suc, List, [], ◌++◌, refl, sym, ap, arith, append_assoc}
 use Rattle.std.specs.Prelude.{false}
 use Rattle.alma_ir.specs.Tree.{Program}
 use Rattle.alma_lower_implements.specs.Implements.{HasPrefix, nothing, a_visit, a_print}
@@ -7,7 +7,7 @@ use Rattle.alma_mean.specs.Events.{End, Events, NoYield, Visit, Print, Alt, Fail
 use Rattle.alma_mean.specs.Laws.{IsPrefix, ends_in_cut}
 use Rattle.alma_mean.specs.Meaning.{ev_program}
 use Rattle.alma_listing.specs.Lister.{listing_of}
-use Rattle.alma_listing.specs.Listing.{Lists, global_cells}
+use Rattle.alma_listing.specs.Listing.{Lists, more_levels}
 use Rattle.alma_listing.proofs.Listed.{each_is_listed}
 use Rattle.alma_listing.proofs.Results.{listers_give_listings}
 use Rattle.alma_plan.specs.Plan.{Due, success}
@@ -57,7 +57,7 @@ module _ (p : Program) (input : List ℕ) (steps : ℕ) (due : Due) (lists : Lis
   -- where the run of the listing program may run out, so may the listing
   may_run_out : run.MayRunOut (listing_of p) input steps → ListingMayRunOut p input steps
   may_run_out out level uncut =
-      let high : ℕ = level + 128 * (global_cells p + 1) in
+      let high : ℕ = level + more_levels p in
       let e : Events NoYield = ev_program high (listing_of p) input in
       let whole : ends_in_cut e ≡ false = (lists level input).reached uncut in
       omega (arith, out high (no_cut e whole), fewer_visits e, (lists high input).visits whole)

@@ -7,10 +7,10 @@ use Rattle.alma_plan.specs.Plan.{bad_word, silent, success, tells}
 use Rattle.alma_driver_words.specs.Words.{is_file_name}
 use Rattle.alma_plan.proofs.Owns.{own_status, own_tells, own_read_source, own_run_plan}
 use Rattle.alma_listing.specs.Lister.{listing_of}
-use Rattle.alma_all.specs.All.{program, all_sense, all_plan, file_plan, bad, body_returns, list_plan, unless_returns, steps_in, with_file}
-use Rattle.alma_all.specs.All.{with_options, with_steps}
+use Rattle.alma_all.specs.All.{program, all_sense, all_plan, file_plan, bad_word_plan, body_returns, list_plan, unless_returns, steps_in}
+use Rattle.alma_all.specs.All.{with_file, with_options, with_steps}
 
-own_bad : (word : ℕ) → HasOwnEnds all_sense (bad word)
+own_bad : (word : ℕ) → HasOwnEnds all_sense (bad_word_plan word)
 own_bad word = own_tells program success (silent (bad_word program word)) (own_status 2 (inl (omega arith)))
 
 own_unless : (returns : Bool) (p : Program) (steps : ℕ) → HasOwnEnds all_sense (unless_returns returns p steps)

@@ -5,7 +5,7 @@ use Rattle.alma_driver_words.specs.Words.{default_steps, is_file_name}
 use Rattle.alma_driver_words.specs.BadWords.{Begins, IsBadWord}
 use Rattle.alma_driver_words.proofs.BadWords.{Found, asks_begins, bad_behind, bad_end}
 use Rattle.alma_driver_words.proofs.BadWords as found
-use Rattle.alma_all.specs.All.{all_plan, file_plan, bad, steps_in, with_file, with_options, with_steps}
+use Rattle.alma_all.specs.All.{all_plan, file_plan, bad_word_plan, steps_in, with_file, with_options, with_steps}
 use Rattle.alma_all.specs.Shown.{AsksToList, IsRequest, plain, within}
 use Rattle.alma_all.proofs.WordLemmas.{option_is, is_option}
 
@@ -43,7 +43,7 @@ second_names word option words file steps (within other is named by) =
 
 -- words are a request, or their plan tells their bad word
 abbrev FoundIn : List (List ℕ) → Type 0
-FoundIn words = Found IsRequest words (λ k. all_plan words ≡ bad k)
+FoundIn words = Found IsRequest words (λ k. all_plan words ≡ bad_word_plan k)
 
 nothing_begins : Begins IsRequest []
 nothing_begins = (codes "a" ∷ [], (codes "a", default_steps, plain refl refl refl))
@@ -95,8 +95,8 @@ words_found (file ∷ options) = by (is_file_name file) refl
           ap (λ b. with_file b file options) named,
         )
 
-pub bad_word_is : (words : List (List ℕ)) (k : ℕ) → IsBadWord IsRequest words k → all_plan words ≡ bad k
-bad_word_is words k is = found.bad_is_told IsRequest words (λ k. all_plan words ≡ bad k) (words_found words) k is
+pub bad_word_is : (words : List (List ℕ)) (k : ℕ) → IsBadWord IsRequest words k → all_plan words ≡ bad_word_plan k
+bad_word_is words k is = found.bad_is_told IsRequest words (λ k. all_plan words ≡ bad_word_plan k) (words_found words) k is
 
 pub one_of_both : (words : List (List ℕ)) → IsRequest words ⊎ ((k : ℕ) × IsBadWord IsRequest words k)
-one_of_both words = found.one_of_both IsRequest words (λ k. all_plan words ≡ bad k) (words_found words)
+one_of_both words = found.one_of_both IsRequest words (λ k. all_plan words ≡ bad_word_plan k) (words_found words)

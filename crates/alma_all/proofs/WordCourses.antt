@@ -10,10 +10,10 @@ use Rattle.alma_plan.specs.Course.{Follows, whole}
 use Rattle.alma_plan.specs.Plan.{bad_word, silent}
 use Rattle.alma_driver_words.specs.Words.{texts}
 use Rattle.alma_plan.specs.Programs.{Tells}
-use Rattle.alma_all.specs.All.{program, all_sense, bad}
+use Rattle.alma_all.specs.All.{program, all_sense, bad_word_plan}
 
 pub course_bad : (word : ℕ) (files : FilesSide) (input : SourceSide) (out : SinkSide)
-    → Follows all_sense program (bad word) files files input input out out (bad_word program word)
+    → Follows all_sense program (bad_word_plan word) files files input input out out (bad_word program word)
 course_bad word files input out =
     course_ends all_sense program (Tells (silent (bad_word program word))) files input out out _
     (whole (silent (bad_word program word)) refl refl refl (gains_none out))

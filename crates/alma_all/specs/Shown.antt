@@ -1,7 +1,6 @@
 -- What a call shows of the alternatives of a program, in the words of a reader of its meaning.
-use Rattle.std.specs.Prelude.{◌≡◌, ◌<◌, ◌≤◌, ◌+◌, ◌*◌, ◌/◌, ℕ, suc, true, false, List, [], ◌∷◌, length, codes, Some}
+use Rattle.std.specs.Prelude.{◌≡◌, ◌<◌, ◌≤◌, ◌+◌, ◌*◌, ◌/◌, ℕ, suc, true, false, List, [], ◌∷◌, length, Some}
 use Rattle.alma_base.specs.Limits.{input_limit, size_limit, source_limit}
-use Rattle.alma_driver_words.specs.Exit as exit
 use Rattle.alma_driver_words.specs.Words.{IsSetting, Steps, default_steps, is_file_name}
 use Rattle.alma_io.specs.Files.{Has}
 use Rattle.alma_ir.specs.Checked.{IsChecked, HaveNoReturn}
@@ -12,31 +11,31 @@ use Rattle.alma_mean.specs.Events.{End, CutOff, first, visit_count}
 use Rattle.alma_mean.specs.Laws.{IsPrefix, ends_in_cut}
 use Rattle.alma_mean.specs.Meaning.{ev_program}
 use Rattle.alma_listing.specs.Lister.{listing_of}
-use Rattle.alma_listing.specs.Listing.{alternatives, global_cells, listing_text, listing}
+use Rattle.alma_listing.specs.Listing.{alternatives, line_visits, listing_text, listing, more_levels}
 use Rattle.alma_io.specs.Outside.{Outside}
-use Rattle.alma_plan.specs.Plan.{Due, Ending, silent, success, tells}
+use Rattle.alma_plan.specs.Plan.{Due, Ending, silent, steps_out, success}
 use Rattle.alma_plan.specs.Meant.{meant_ending}
 use Rattle.alma_plan.specs.Programs.{Runs, refuse_source, too_much_code}
 use Rattle.alma_plan.specs.Undisturbed.{ShowsDue}
 use Rattle.alma_run_laws.specs.Shown.{size_of}
 use Rattle.alma_source.specs.Refusal.{IsProgramOf, IsRefused, place_of}
 use Rattle.alma_source.specs.declared.fault.SourceFault.{SourceFault}
-use Rattle.alma_all.specs.All.{program, all_sense, body_returns}
+use Rattle.alma_all.specs.All.{program, all_sense, body_returns, module_return}
 
 -- how a call ends behind all alternatives: where these close in a failure that is success, and a fault is told with its line
 abbrev pub listing_end : End → Ending
 listing_end end = meant_ending program success end
 
--- how many visits listing costs at most: those of the program, and for each alternative 128 times one more than cells and variables
+-- how many visits listing costs at most: those of the program, and those of the line of each alternative
 abbrev pub most_visits : (level : ℕ) → Program → (input : List ℕ) → ℕ
 most_visits level p input =
-    visit_count (ev_program level p input) + 128 * (global_cells p + length p.globals + 1) * alternatives (ev_program level p input)
+    visit_count (ev_program level p input) + line_visits p * alternatives (ev_program level p input)
 
 -- so many steps may not be enough: at 32 for each visit, and 32 more, they would be
 abbrev pub ListingMayRunOut : Program → (input : List ℕ) → (steps : ℕ) → Type 0
 ListingMayRunOut p input steps =
     (level : ℕ) → ends_in_cut (ev_program level p input) ≡ false
-    → steps < 32 * (most_visits (level + 128 * (global_cells p + 1)) p input + 1)
+    → steps < 32 * (most_visits (level + more_levels p) p input + 1)
 
 -- what is due lists the alternatives of a program on an input, in so many steps
 pub data IsListed (p : Program) (input : List ℕ) (steps : ℕ) (due : Due) : Type 0 where
@@ -44,7 +43,7 @@ pub data IsListed (p : Program) (input : List ℕ) (steps : ℕ) (due : Due) : T
   whole : (end : End) → listing (suc steps) p input ≡ (due.out, end) → due.end ≡ listing_end end → (end ≡ CutOff → ⊥)
       → IsListed p input steps due
   -- the steps ran out: a front of them, which covers one visit of the listing program for each 32 steps
-  front : due.end ≡ tells program exit.steps_out (codes "steps out")
+  front : due.end ≡ steps_out program
       → IsPrefix due.out (listing_text p.globals (ev_program (suc steps) p input))
       → Covers (first (ev_program (suc steps) (listing_of p) input)) due.out (steps / 32) → ListingMayRunOut p input steps
       → IsListed p input steps due
@@ -84,7 +83,7 @@ pub data ListEnds (file source input : List ℕ) (steps : ℕ) (before after : O
       → ListEnds file source input steps before after status
   -- a RETURN stands in the body of the program's module
   returns : (p : Program) → IsProgramOf source p → body_returns p ≡ true
-      → ShowsDue before after status (silent (tells program exit.own_refusal (codes "ModuleReturn")))
+      → ShowsDue before after status (silent module_return)
       → ListEnds file source input steps before after status
   -- the program that lists the alternatives is too large
   too_large : (p : Program) → IsProgramOf source p → body_returns p ≡ false → size_limit < size_of (listing_of p)

@@ -3,7 +3,7 @@ ghost use Rattle.std.specs.Prelude.{◌≡◌, ◌⊎◌, List, ℕ};
 ghost use Rattle.alma_plan.specs.Causes.{Causes};
 ghost use Rattle.alma_io.specs.Outside.{Outside, IsUndisturbed};
 ghost use Rattle.alma_driver_words.specs.BadWords.{IsBadWord};
-ghost use Rattle.alma_all.specs.All.{all_plan, all_sense, file_plan, bad, program};
+ghost use Rattle.alma_all.specs.All.{all_plan, all_sense, file_plan, bad_word_plan, program};
 ghost use Rattle.alma_all.specs.Shown.{AsksToList, IsRequest, ListEnds, ListsEveryAlternative, ListsSource};
 
 /// Where a call lists the alternatives of a program on an input, it prints what the meaning of the
@@ -23,7 +23,7 @@ pub fn words_are_a_request_or_have_a_bad_word()
         → AsksToList words file steps
         → all_plan words ≡ file_plan file steps }
     ensures bad_word { (words : List (List ℕ)) (k : ℕ) → IsBadWord IsRequest words k
-        → all_plan words ≡ bad k }
+        → all_plan words ≡ bad_word_plan k }
     ensures one_of_both { (words : List (List ℕ)) → IsRequest words
         ⊎ ((k : ℕ) × IsBadWord IsRequest words k) }
 {}

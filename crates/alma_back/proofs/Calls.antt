@@ -9,7 +9,6 @@ use Rattle.alma_code.specs.TraceText.{value_of_name}
 use Rattle.alma_io.specs.Files.{Told, Has}
 use Rattle.alma_ir.specs.Tree.{Program}
 use Rattle.alma_lower.specs.CodeFor.{IsCodeFor}
-use Rattle.alma_lower_implements.specs.Implements.{line_in}
 use Rattle.alma_plan.specs.Causes.{Causes}
 use Rattle.alma_plan.specs.Objects.{object_refusal}
 use Rattle.alma_io.specs.Outside.{Outside, IsUndisturbed}
@@ -20,7 +19,6 @@ use Rattle.alma_plan.proofs.ToldLemmas.{fetch_comes, read_comes}
 use Rattle.alma_plan.proofs.UndisturbedLemmas.{call_shows_due}
 use Rattle.alma_run_laws.proofs.Meant.{code_shows}
 use Rattle.alma_run_laws.proofs.VariableLemmas.{values_meant, variables_shown}
-use Rattle.alma_run_laws.specs.Shown.{shown_end}
 use Rattle.alma_run_laws.specs.Variables.{variable_word}
 use Rattle.alma_verify.specs.Bytes.{object_code}
 use Rattle.alma_back.specs.Due.{fetch_plan, back_plan, verify_plan, judged_by, program, script_limit, walk_plan, walked_on}

@@ -1,10 +1,8 @@
 -- How a call goes by its plan.
 use Rattle.std.proofs.Common.{◌≡◌, ℕ, List, [], ◌∷◌, refl, sym, subst, inl, inr, arith}
-use Rattle.std.specs.Prelude.{Bool, true, false, cond, Option, None, Some, Result, Ok, Err, OnOk, OnErr}
-use Rattle.std.specs.Io.KnownBytes.{Appends}
+use Rattle.std.specs.Prelude.{Bool, true, false, cond, Option, None, Some, Result, Ok, Err}
 use Rattle.alma_code.specs.Plain.{PlainCode}
 use Rattle.alma_code.specs.Reads.{code_reads}
-use Rattle.alma_io.specs.Fronts.{AppendsFront}
 use Rattle.alma_io.specs.Sides.{SinkSide, SourceSide, FilesSide}
 use Rattle.alma_verify.specs.Bytes.{object_code}
 use Rattle.alma_plan.proofs.OwnEnds.{HasOwnEnds}
@@ -21,7 +19,7 @@ use Rattle.alma_plan.proofs.Courses.{course_ends, course_starved, gains_none}
 use Rattle.alma_plan.proofs.PlainEnds.{own_status, refusal_status}
 use Rattle.alma_back.specs.declared.end.BackEnd.{BackEnd}
 use Rattle.alma_back.specs.declared.end.BackEnd.TheVariants.{Walked, BadLine, Refused}
-use Rattle.alma_back.specs.Due.{program, walked_on, walk_plan, judged_by, verify_plan, fetch_plan, bad, with_script, back_plan}
+use Rattle.alma_back.specs.Due.{program, walked_on, walk_plan, judged_by, verify_plan, fetch_plan, bad_word_plan, with_script, back_plan}
 use Rattle.alma_back.specs.Ends.{back_end}
 use Rattle.alma_back.specs.Inner.{IsUnread, Shows}
 use Rattle.alma_back.specs.Script.{Line, lines_in}
@@ -92,14 +90,14 @@ module _ (object : List ℕ) (files : FilesSide) (input : SourceSide) (out : Sin
 
 -- a word cannot stand where it is
 pub bad_followed : (word : ℕ) (files : FilesSide) (input : SourceSide) (out : SinkSide)
-    → Follows plain program (bad word) files files input input out out (back_end (Refused (BadWord word)))
+    → Follows plain program (bad_word_plan word) files files input input out out (back_end (Refused (BadWord word)))
 bad_followed word files input out =
     let end = back_end (Refused (BadWord word)) in
     course_ends plain program (silent end) files input out out end (silent_end end files input out)
 
 -- ---- its ends
 
-own_bad : (word : ℕ) → HasOwnEnds plain (bad word)
+own_bad : (word : ℕ) → HasOwnEnds plain (bad_word_plan word)
 own_bad word = own_status _ 2 refl (inl (omega arith))
 
 own_on : (reads : Bool) (code : PlainCode) (lines : List Line) → HasOwnEnds plain (walked_on reads code lines)
@@ -124,9 +122,11 @@ own_asked object script = λ bytes lines. own_judged (lines_in lines) bytes
 
 own_script : (object : List ℕ) (words : List (List ℕ)) → HasOwnEnds plain (with_script object words)
 own_script object [] = own_bad 2
-own_script object (script ∷ []) = own_cond (is_file_name script) (fetch_plan object script) (bad 2) (own_asked object script) (own_bad 2)
-own_script object (script ∷ word ∷ words) = own_cond (is_file_name script) (bad 3) (bad 2) (own_bad 3) (own_bad 2)
+own_script object (script ∷ []) = own_cond (is_file_name script) (fetch_plan object script) (bad_word_plan 2) (own_asked object script)
+    (own_bad 2)
+own_script object (script ∷ word ∷ words) = own_cond (is_file_name script) (bad_word_plan 3) (bad_word_plan 2) (own_bad 3) (own_bad 2)
 
 pub own_plan : (words : List (List ℕ)) → HasOwnEnds plain (back_plan words)
 own_plan [] = own_bad 1
-own_plan (object ∷ words) = own_cond (is_file_name object) (with_script object words) (bad 1) (own_script object words) (own_bad 1)
+own_plan (object ∷ words) = own_cond (is_file_name object) (with_script object words) (bad_word_plan 1) (own_script object words)
+    (own_bad 1)

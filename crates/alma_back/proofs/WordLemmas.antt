@@ -4,7 +4,7 @@ use Rattle.std.specs.Prelude.{◌⊎◌, Bool, true, false, codes, cond}
 use Rattle.alma_driver_words.specs.BadWords.{Begins, IsBadWord}
 use Rattle.alma_driver_words.specs.Words.{AreFileNames, is_file_name}
 use Rattle.alma_driver_words.proofs.BadWords.{Found, bad_behind, bad_end, bad_is_told, one_of_both}
-use Rattle.alma_back.specs.Due.{fetch_plan, back_plan, bad, with_script}
+use Rattle.alma_back.specs.Due.{fetch_plan, back_plan, bad_word_plan, with_script}
 use Rattle.alma_back.specs.Words.{AsksToWalk, IsRequest}
 
 -- ---- the plan of a request
@@ -13,8 +13,8 @@ pub request_plan : (words : List (List ℕ)) (object script : List ℕ) → Asks
     → back_plan words ≡ fetch_plan object script
 request_plan words object script asks =
     let names : AreFileNames (object ∷ script ∷ []) = subst AreFileNames asks.are asks.names in
-    ap back_plan asks.are ∙ ap (λ b. cond b (with_script object (script ∷ [])) (bad 1)) names.0
-    ∙ ap (λ b. cond b (fetch_plan object script) (bad 2)) names.1.0
+    ap back_plan asks.are ∙ ap (λ b. cond b (with_script object (script ∷ [])) (bad_word_plan 1)) names.0
+    ∙ ap (λ b. cond b (fetch_plan object script) (bad_word_plan 2)) names.1.0
 
 -- ---- words that begin a request
 
@@ -52,7 +52,7 @@ one_asks object asks = cc asks.2.are
 
 -- the plan tells that bad word
 abbrev Tells : (words : List (List ℕ)) → (k : ℕ) → Type 0
-Tells words k = back_plan words ≡ bad k
+Tells words k = back_plan words ≡ bad_word_plan k
 
 -- the words ask to walk, or have a first bad word, which their plan tells
 abbrev Asked : (words : List (List ℕ)) → Type 0
@@ -61,7 +61,7 @@ Asked words = Found IsRequest words (Tells words)
 module _ (object : List ℕ) (named : is_file_name object ≡ true) where
   -- behind an object's name the plan goes by the other words
   past : (words : List (List ℕ)) → back_plan (object ∷ words) ≡ with_script object words
-  past words = ap (λ b. cond b (with_script object words) (bad 1)) named
+  past words = ap (λ b. cond b (with_script object words) (bad_word_plan 1)) named
 
   second_bad : (script : List ℕ) (words : List (List ℕ)) → is_file_name script ≡ false → IsBadWord IsRequest (object ∷ script ∷ words) 2
   second_bad script words unnamed =
@@ -71,17 +71,17 @@ module _ (object : List ℕ) (named : is_file_name object ≡ true) where
   two_asked : (script : List ℕ) (b : Bool) → is_file_name script ≡ b → Asked (object ∷ script ∷ [])
   two_asked script true e = inl (asks_both object script named e)
   two_asked script false e =
-      inr (2, second_bad script [] e, past (script ∷ []) ∙ ap (λ b. cond b (fetch_plan object script) (bad 2)) e)
+      inr (2, second_bad script [] e, past (script ∷ []) ∙ ap (λ b. cond b (fetch_plan object script) (bad_word_plan 2)) e)
 
   more_asked : (script word : List ℕ) (words : List (List ℕ)) (b : Bool) → is_file_name script ≡ b → Asked (object ∷ script ∷ word ∷ words)
   more_asked script word words true e = inr (
     3,
     bad_behind IsRequest (object ∷ script ∷ []) word words ([], asks_both object script named e)
         (λ begins. too_many object script word begins.0 begins.1),
-    past (script ∷ word ∷ words) ∙ ap (λ b. cond b (bad 3) (bad 2)) e,
+    past (script ∷ word ∷ words) ∙ ap (λ b. cond b (bad_word_plan 3) (bad_word_plan 2)) e,
   )
   more_asked script word words false e =
-      inr (2, second_bad script (word ∷ words) e, past (script ∷ word ∷ words) ∙ ap (λ b. cond b (bad 3) (bad 2)) e)
+      inr (2, second_bad script (word ∷ words) e, past (script ∷ word ∷ words) ∙ ap (λ b. cond b (bad_word_plan 3) (bad_word_plan 2)) e)
 
   named_asked : (words : List (List ℕ)) → Asked (object ∷ words)
   named_asked [] = inr (2, bad_end IsRequest (object ∷ []) (begins_object object named) (one_asks object), past [])
@@ -97,12 +97,12 @@ all_asked (object ∷ words) = by (is_file_name object) refl
     by false e = inr (
       1,
       bad_behind IsRequest [] object words begins_none (λ begins. first_unnamed object begins.0 e begins.1),
-      ap (λ b. cond b (with_script object words) (bad 1)) e,
+      ap (λ b. cond b (with_script object words) (bad_word_plan 1)) e,
     )
 
 -- ---- what is said of words
 
-pub bad_plan : (words : List (List ℕ)) (k : ℕ) → IsBadWord IsRequest words k → back_plan words ≡ bad k
+pub bad_plan : (words : List (List ℕ)) (k : ℕ) → IsBadWord IsRequest words k → back_plan words ≡ bad_word_plan k
 bad_plan words k is = bad_is_told IsRequest words (Tells words) (all_asked words) k is
 
 pub asked_or_bad : (words : List (List ℕ)) → IsRequest words ⊎ ((k : ℕ) × IsBadWord IsRequest words k)

@@ -31,11 +31,16 @@ abbrev pub walk_plan : Option Ending → PlainCode → List Line → Plan ⊥ Du
 walk_plan (Some end) code lines = Ends (silent end)
 walk_plan None code lines = walked_on (code_reads code) code lines
 
+-- the end for a line of the script, from 1, that is none
+abbrev pub bad_line : (line : ℕ) → Ending
+bad_line line = tells program exit.own_refusal (codes "bad line " ++ decimal line)
+
 -- both files are there: the first bad line of the script comes before any fault of the object
 abbrev pub judged_by : Result (List Line) ℕ → (object : List ℕ) → Plan ⊥ Due
-judged_by (Err line) object = Ends (silent (tells program exit.own_refusal (codes "bad line " ++ decimal line)))
+judged_by (Err line) object = Ends (silent (bad_line line))
 judged_by (Ok lines) object = walk_plan (object_refusal program object) (object_code object) lines
 
+-- the same by the bytes of both
 abbrev pub verify_plan : (object script : List ℕ) → Plan ⊥ Due
 verify_plan object script = judged_by (lines_in script) object
 
@@ -44,15 +49,16 @@ abbrev pub fetch_plan : (object script : List ℕ) → Plan ⊥ Due
 fetch_plan object script = Fetches object object_limit (λ bytes. Fetches script script_limit (λ lines. verify_plan bytes lines))
 
 -- a word that cannot stand where it is, or one more than there are
-abbrev pub bad : (word : ℕ) → Plan ⊥ Due
-bad word = Ends (silent (bad_word program word))
+abbrev pub bad_word_plan : (word : ℕ) → Plan ⊥ Due
+bad_word_plan word = Ends (silent (bad_word program word))
 
 -- the words behind an object's name: the name of a script, and no more
 abbrev pub with_script : (object : List ℕ) → (words : List (List ℕ)) → Plan ⊥ Due
-with_script object [] = bad 2
-with_script object (script ∷ []) = cond (is_file_name script) (fetch_plan object script) (bad 2)
-with_script object (script ∷ word ∷ words) = cond (is_file_name script) (bad 3) (bad 2)
+with_script object [] = bad_word_plan 2
+with_script object (script ∷ []) = cond (is_file_name script) (fetch_plan object script) (bad_word_plan 2)
+with_script object (script ∷ word ∷ words) = cond (is_file_name script) (bad_word_plan 3) (bad_word_plan 2)
 
+-- a call with these words
 abbrev pub back_plan : (words : List (List ℕ)) → Plan ⊥ Due
-back_plan [] = bad 1
-back_plan (object ∷ words) = cond (is_file_name object) (with_script object words) (bad 1)
+back_plan [] = bad_word_plan 1
+back_plan (object ∷ words) = cond (is_file_name object) (with_script object words) (bad_word_plan 1)

@@ -35,10 +35,11 @@ abbrev pub old_of : State → (printed : ℕ) → Old
 old_of s printed = record { at = s.at; last = s.last; failing = is_failing s.mode; choices = s.choices; fails = s.fails; printed = printed }
 
 module _ (code : PlainCode) (input : List ℕ) where
-  -- the state after so many steps, and how many bytes they printed
+  -- the state after so many steps
   abbrev pub state_at : (steps : ℕ) → State
   state_at steps = after code input steps (start code)
 
+  -- how many bytes these steps printed
   abbrev pub printed_at : (steps : ℕ) → ℕ
   printed_at steps = length (prints code input steps (start code))
 

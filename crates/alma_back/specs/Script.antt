@@ -16,10 +16,11 @@ pub data Line : Type 0 where
   Value : (name : List ℕ) → Line
   Output : Line
 
--- the greatest number of steps of a line, and of its digits
+-- the greatest number of steps of a line
 abbrev pub greatest_count : ℕ
 greatest_count = 1000000
 
+-- the greatest number of its digits
 abbrev pub count_digits : ℕ
 count_digits = 7
 
@@ -27,6 +28,7 @@ count_digits = 7
 abbrev pub is_count : List ℕ → Bool
 is_count text = is_numeral count_digits greatest_count text
 
+-- the number that such a text is
 abbrev pub count_in : List ℕ → Option ℕ
 count_in text = cond (is_count text) (Some (value_of text)) None
 
@@ -39,6 +41,7 @@ is_word (byte ∷ bytes) = is_letter byte && list_all is_word_byte bytes
 abbrev pub is_name : List ℕ → Bool
 is_name text = is_word text && is_none (look_up reserved_words text)
 
+-- the name that a text is
 abbrev pub name_in : List ℕ → Option (List ℕ)
 name_in text = cond (is_name text) (Some text) None
 
@@ -67,6 +70,7 @@ abbrev pub with_byte : (byte : ℕ) → (ended : List (List ℕ)) → (left : Li
 with_byte byte [] left = record { ended = []; left = byte ∷ left }
 with_byte byte (text ∷ ended) left = record { ended = (byte ∷ text) ∷ ended; left = left }
 
+-- the texts of a script
 abbrev pub texts_in : List ℕ → Texts
 texts_in [] = record { ended = []; left = [] }
 texts_in (byte ∷ bytes) =

@@ -45,6 +45,7 @@ next_standing s = cond (runs s) (record s { steps = s.steps + 1 }) s
 abbrev pub stepped_back : Standing → Standing
 stepped_back s = record s { steps = s.steps - 1 }
 
+-- after a move
 abbrev pub move_by : Standing → Move → Standing
 move_by s Step = next_standing s
 move_by s Back = stepped_back s

@@ -6,7 +6,7 @@ ghost use Rattle.alma_plan.specs.Causes.{Causes};
 ghost use Rattle.alma_io.specs.Outside.{Outside, IsUndisturbed};
 ghost use Rattle.alma_plan.specs.Plan.{plain};
 ghost use Rattle.alma_driver_words.specs.BadWords.{IsBadWord};
-ghost use Rattle.alma_back.specs.Due.{fetch_plan, back_plan, bad, program};
+ghost use Rattle.alma_back.specs.Due.{fetch_plan, back_plan, bad_word_plan, program};
 ghost use Rattle.alma_driver_words.specs.Words.{IsName};
 ghost use Rattle.alma_back.specs.Laws.{BackUndoesStep, WalksAreRuns};
 ghost use Rattle.alma_back.specs.Script.{Line, is_name};
@@ -31,7 +31,7 @@ pub fn words_are_a_request_or_have_a_bad_word()
         → AsksToWalk words object script
         → back_plan words ≡ fetch_plan object script }
     ensures bad_word { (words : List (List ℕ)) (k : ℕ) → IsBadWord IsRequest words k
-        → back_plan words ≡ bad k }
+        → back_plan words ≡ bad_word_plan k }
     ensures one_of_both { (words : List (List ℕ)) → IsRequest words
         ⊎ ((k : ℕ) × IsBadWord IsRequest words k) }
 {}

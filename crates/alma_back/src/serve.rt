@@ -3,7 +3,7 @@ ghost use Rattle.std.specs.Prelude.{◌≡◌, IfOk, IfErr};
 ghost use Rattle.alma_plan.specs.Course.{Follows};
 ghost use Rattle.alma_plan.specs.Plan.{Fetches, plain};
 ghost use Rattle.alma_driver_words.specs.Words.{texts};
-ghost use Rattle.alma_back.specs.Due.{program, script_limit, verify_plan, fetch_plan, bad, back_plan};
+ghost use Rattle.alma_back.specs.Due.{program, script_limit, verify_plan, fetch_plan, bad_word_plan, back_plan};
 ghost use Rattle.alma_back.specs.Ends.{back_end};
 
 use crate::end::BackEnd;
@@ -22,7 +22,7 @@ const SCRIPT_LIMIT: usize = 1_048_576;
 fn file_words(words: &[String]) -> Result<(&str, &str), usize>
     ensures names { IfOk result (λ names. back_plan (texts words.now)
         ≡ fetch_plan names.0.now names.1.now) }
-    ensures bad { IfErr result (λ word. back_plan (texts words.now) ≡ bad word) }
+    ensures bad { IfErr result (λ word. back_plan (texts words.now) ≡ bad_word_plan word) }
 {
     let Some((object, rest)) = split_word(words) else {
         return Err(1);

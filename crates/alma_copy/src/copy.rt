@@ -23,7 +23,8 @@ pub struct Moves<'m> {
     pub routines: &'m [u32],
 }
 
-// NoMemory where a u32 does not hold the new slot; within the limits of a program it does.
+// The new number of a slot. NoMemory where a u32 does not hold it; within the limits of a program
+// it does.
 fn copy_slot(slot: u32, before: u32) -> Result<u32, NoMemory>
     ensures { IfOk result (λ n. n ≡ slot_behind before slot) }
 {
@@ -33,6 +34,7 @@ fn copy_slot(slot: u32, before: u32) -> Result<u32, NoMemory>
     slot.checked_add(before).ok_or(NoMemory)
 }
 
+// The new number of a routine.
 fn copy_number(table: &[u32], routine: u32) -> u32
     ensures { result ≡ number_in table.now routine }
 {
@@ -42,6 +44,7 @@ fn copy_number(table: &[u32], routine: u32) -> u32
     }
 }
 
+// A root at its new slot; a parameter, and a variable of a procedure round it, stay.
 fn copy_root(root: Root, moves: &Moves<'_>) -> Result<Root, NoMemory>
     ensures { IfOk result (λ x. x ≡ moved_root (moves_of moves.now) root) }
 {

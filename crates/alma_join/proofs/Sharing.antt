@@ -10,7 +10,7 @@ use Rattle.alma_base.specs.Choice.{if_true}
 use Rattle.alma_ir.specs.Tree.{Routine}
 use Rattle.alma_join.specs.Joined.{Kept, same_name, matches}
 use Rattle.alma_join.specs.declared.directory.Directory.{Directory}
-use Rattle.alma_join.specs.Directory.{PlainExport, sharing, entries_in, alike, others, Lists, Holds, Enters, EntersOne}
+use Rattle.alma_join.specs.Directory.{PlainExport, exports_named, entries_in, alike, others, Lists, Holds, Enters, EntersOne}
 
 -- ---- names
 
@@ -31,19 +31,19 @@ same_gives (a ∷ x) (b ∷ y) h = elim (cases_eq a b) [
 -- ---- lists
 
 pub sharing_append : (xs ys : List Kept) (at : ℕ) (name : List ℕ)
-    → sharing (xs ++ ys) at name ≡ sharing xs at name ++ sharing ys (at + length xs) name
-sharing_append [] ys at name = let e : at ≡ at + 0 = omega arith in ap (λ n. sharing ys n name) e
+    → exports_named (xs ++ ys) at name ≡ exports_named xs at name ++ exports_named ys (at + length xs) name
+sharing_append [] ys at name = let e : at ≡ at + 0 = omega arith in ap (λ n. exports_named ys n name) e
 sharing_append (k ∷ xs) ys at name =
     let e : suc at + length xs ≡ at + length (k ∷ xs) = omega arith in
     by _ _ _ _ (nat_eq k.routine.level 1 && same_name k.routine.name name)
-    (sharing_append xs ys (suc at) name ∙ ap (λ n. sharing xs (suc at) name ++ sharing ys n name) e)
+    (sharing_append xs ys (suc at) name ∙ ap (λ n. exports_named xs (suc at) name ++ exports_named ys n name) e)
   where
     by : (x : PlainExport) (a b c : List PlainExport) (t : Bool) → a ≡ b ++ c
         → if_true t (λ _. x ∷ a) (λ _. a) ≡ if_true t (λ _. x ∷ b) (λ _. b) ++ c
     by x a b c true h = ap (λ l. x ∷ l) h
     by x a b c false h = h
 
-pub matches_others : (xs : List Kept) (at unit : ℕ) (name : List ℕ) → matches xs at unit name ≡ others unit (sharing xs at name)
+pub matches_others : (xs : List Kept) (at unit : ℕ) (name : List ℕ) → matches xs at unit name ≡ others unit (exports_named xs at name)
 matches_others [] at unit name = refl
 matches_others (k ∷ xs) at unit name =
     by _ _ (nat_eq k.routine.level 1) (same_name k.routine.name name) (nat_eq k.unit unit) refl (matches_others xs (suc at) unit name)
@@ -90,17 +90,17 @@ module _ (d d' : Directory) (unit : ℕ) (routine : Routine) (step : d'.next ≡
     where
       by : (r : ℕ) (all : List Kept) → d.next ≡ 1 + length all → Lists d.entries all → (q : Vec ℕ Global)
           → ((same_name routine.name q.items ≡ true) ⊎ (same_name routine.name q.items ≡ false))
-          → entries_in (get alike d'.entries q) ≡ sharing (all ++ kept r ∷ []) 1 q.items
+          → entries_in (get alike d'.entries q) ≡ exports_named (all ++ kept r ∷ []) 1 q.items
       by r all next h q (inl same) =
           own q (sym (same_gives routine.name q.items same))
           ∙ (λ i. h.named q i ++ record { unit = unit; number = next i; routine = routine } ∷ [])
-          ∙ ap (λ t. sharing all 1 q.items ++ if_true t (λ _. record { unit = unit; number = 1 + length all; routine = routine } ∷ [])
+          ∙ ap (λ t. exports_named all 1 q.items ++ if_true t (λ _. record { unit = unit; number = 1 + length all; routine = routine } ∷ [])
           (λ _. [])) (sym ((λ i. level i && same i)))
           ∙ sym (sharing_append all (kept r ∷ []) 1 q.items)
       by r all next h q (inr differ) =
           other q (λ e. true≢false (sym (same_itself routine.name) ∙ ap (same_name routine.name) (sym e) ∙ differ)) ∙ h.named q
           ∙ sym (append-nil _)
-          ∙ ap (λ t. sharing all 1 q.items ++ if_true t (λ _. record { unit = unit; number = 1 + length all; routine = routine } ∷ [])
+          ∙ ap (λ t. exports_named all 1 q.items ++ if_true t (λ _. record { unit = unit; number = 1 + length all; routine = routine } ∷ [])
           (λ _. [])) (sym ((λ i. level i && differ i)))
           ∙ sym (sharing_append all (kept r ∷ []) 1 q.items)
 
@@ -110,7 +110,7 @@ module _ (d d' : Directory) (unit : ℕ) (routine : Routine) (step : d'.next ≡
   passed level same = by_lists (λ r all next h. record {
     named = λ q.
         same q ∙ h.named q ∙ sym (append-nil _)
-        ∙ ap (λ t. sharing all 1 q.items ++ if_true (t && same_name routine.name q.items)
+        ∙ ap (λ t. exports_named all 1 q.items ++ if_true (t && same_name routine.name q.items)
         (λ _. record { unit = unit; number = 1 + length all; routine = routine } ∷ []) (λ _. [])) (sym level)
         ∙ sym (sharing_append all (kept r ∷ []) 1 q.items);
   })
@@ -123,7 +123,7 @@ enters_none d = record {
         ∙ ap (λ l. 1 + length l) (sym (append-nil all));
     lists = record {
       named = λ q. h.lists.named q
-          ∙ ap (λ l. sharing l 1 q.items) (sym (append-nil all));
+          ∙ ap (λ l. exports_named l 1 q.items) (sym (append-nil all));
     };
   };
 }

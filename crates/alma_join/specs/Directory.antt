@@ -23,11 +23,12 @@ abbrev pub plain_export : Export → PlainExport
 plain_export e = record { unit = e.unit; number = e.number; routine = routine_of e.routine.now }
 
 -- those of this name, where the first of the list has the number `at`
-abbrev pub sharing : List Kept → (at : ℕ) → (name : List ℕ) → List PlainExport
-sharing [] at name = []
-sharing (k ∷ rest) at name =
+abbrev pub exports_named : List Kept → (at : ℕ) → (name : List ℕ) → List PlainExport
+exports_named [] at name = []
+exports_named (k ∷ rest) at name =
     if_true (nat_eq k.routine.level 1 && same_name k.routine.name name)
-    (λ _. record { unit = k.unit; number = at; routine = k.routine } ∷ sharing rest (suc at) name) (λ _. sharing rest (suc at) name)
+    (λ _. record { unit = k.unit; number = at; routine = k.routine } ∷ exports_named rest (suc at) name)
+    (λ _. exports_named rest (suc at) name)
 
 -- the entries that a look-up gives
 abbrev pub entries_in : Option (Vec Export Global) → List PlainExport
@@ -40,7 +41,7 @@ alike x y = pointwise nat_eq x.items y.items
 
 -- under each name the map has what shares it
 pub record Lists {S : Type 0} (entries : IndexMap (Vec ℕ Global) (Vec Export Global) S) (all : List Kept) : Type 0 where
-  pub named : (q : Vec ℕ Global) → entries_in (get alike entries q) ≡ sharing all 1 q.items
+  pub named : (q : Vec ℕ Global) → entries_in (get alike entries q) ≡ exports_named all 1 q.items
 
 -- the directory is that of these
 pub record Holds (d : Directory) (all : List Kept) : Type 0 where

@@ -21,7 +21,7 @@ fn slots_of(param: &Param) -> u32
 }
 
 // Whether the parameters take all the slots.
-fn fill(params: &[Param], slots: u32) -> bool
+fn take_all_slots(params: &[Param], slots: u32) -> bool
     ensures { result ≡ nat_eq slots (sum_by param_slots params.now) }
 {
     let mut left = slots;
@@ -51,7 +51,7 @@ fn is_bare(routine: &Routine, holds_routine: bool) -> bool
 {
     routine.level == 1
         && has_empty_body(routine)
-        && fill(&routine.params, routine.slots)
+        && take_all_slots(&routine.params, routine.slots)
         && !holds_routine
 }
 

@@ -6,6 +6,7 @@ ghost use Rattle.alma_join.specs.Joined as joined;
 use alma_base::Range;
 use alma_ir::{ArgKind, Param, Routine};
 
+// Whether two parameters are handed over in the same way.
 fn same_kind(a: ArgKind, b: ArgKind) -> bool
     ensures { result ≡ joined.same_kind a b }
 {
@@ -17,19 +18,21 @@ fn same_kind(a: ArgKind, b: ArgKind) -> bool
     }
 }
 
+// Whether two ranges have the same ends.
 fn same_range(a: Range, b: Range) -> bool
     ensures { result ≡ joined.same_range a b }
 {
     a.low == b.low && a.high == b.high
 }
 
-// Kind, cells and range; the slots follow from them.
+// Whether two parameters are alike in kind, cells and range; the slots follow from them.
 fn same_param(a: &Param, b: &Param) -> bool
     ensures { result ≡ joined.same_params (a.now ∷ []) (b.now ∷ []) }
 {
     same_kind(a.kind, b.kind) && a.cells == b.cells && same_range(a.range, b.range)
 }
 
+// Whether there are as many parameters, alike one by one.
 fn same_params(a: &[Param], b: &[Param]) -> bool
     ensures { result ≡ joined.same_params a.now b.now }
 {
@@ -44,6 +47,7 @@ fn same_params(a: &[Param], b: &[Param]) -> bool
     true
 }
 
+// Whether both give a result of the same range, or neither gives one.
 fn same_result(a: Option<Range>, b: Option<Range>) -> bool
     ensures { result ≡ joined.same_result a b }
 {

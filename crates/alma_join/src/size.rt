@@ -33,6 +33,7 @@ fn params_of(routine: &Routine) -> u64
     params.saturating_add(1)
 }
 
+// The parameters of routines, with one more for each link.
 fn count_params(routines: &[Routine]) -> u64
     ensures { result ≡ saturate (sum_by (λ r. length r.params + link_slots r.level)
         (map routine_of routines.now)) }
@@ -44,6 +45,7 @@ fn count_params(routines: &[Routine]) -> u64
     total
 }
 
+// The bytes of the names of routines.
 fn count_names(routines: &[Routine]) -> u64
     ensures { result ≡ saturate (sum_by (λ r. length r.name) (map routine_of routines.now)) }
 {
@@ -54,6 +56,7 @@ fn count_names(routines: &[Routine]) -> u64
     total
 }
 
+// The bytes of the names of variables.
 fn count_global_names(globals: &[Global]) -> u64
     ensures { result ≡ saturate (sum_by (λ g. length g.name) (map global_of globals.now)) }
 {
@@ -64,6 +67,7 @@ fn count_global_names(globals: &[Global]) -> u64
     total
 }
 
+// The bytes of the texts in routines.
 fn count_texts(routines: &[Routine]) -> u64
     ensures { result ≡ saturate (sum_by (λ r. sum_by text_bytes (stmts_phrases r.body))
         (map routine_of routines.now)) }
@@ -95,7 +99,7 @@ fn slots_of(program: &Program) -> u64
     }
 }
 
-// Those of a module as it stands are added.
+// The sums with those of a module, as it stands.
 fn with_unit(totals: Totals, program: &Program) -> Totals
     ensures { (all : joined.Totals) → AreTotals totals all
         → AreTotals result (joined.with_unit all (program_of program.now)) }

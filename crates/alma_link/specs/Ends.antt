@@ -4,8 +4,7 @@ use Rattle.alma_ir.specs.Tree.{Program}
 use Rattle.alma_join.specs.declared.error.JoinError.{JoinError}
 use Rattle.alma_join.specs.declared.error.JoinError.TheVariants as join
 use Rattle.alma_join.specs.Joined as fault
-use Rattle.alma_plan.specs.Plan.{Ending, bad_word, no_memory, tells}
-use Rattle.alma_driver_words.specs.Exit as exit
+use Rattle.alma_plan.specs.Plan.{Ending, bad_word, no_memory}
 use Rattle.alma_driver_words.specs.Words.{texts}
 use Rattle.alma_plan.specs.Ends.{file_end, program_end}
 use Rattle.alma_link.specs.declared.end.LinkEnd.{LinkEnd}
@@ -13,23 +12,24 @@ use Rattle.alma_link.specs.declared.end.LinkEnd.TheVariants.{BadWord, Unread, Un
 use Rattle.alma_link.specs.declared.words.Task as word_task
 use Rattle.alma_link.specs.declared.words.Task.TheVariants as word
 use Rattle.alma_link.specs.declared.words.Request as words
-use Rattle.alma_link.specs.Link.{program, failure, join_text}
+use Rattle.alma_link.specs.Link.{program, failure, join_refusal}
 use Rattle.alma_link.specs.Words.{Task, Run, Compile, Request, request}
 
--- the task and the request that words name
+-- the task that words name
 abbrev pub task_of : word_task.Task → Task
 task_of word.Run = Run
 task_of (word.Compile object) = Compile object.now
 
+-- the request that they name
 abbrev pub request_in : words.Request → Request
 request_in r = request (task_of r.task) (texts r.files.now)
 
 -- why modules are not joined
 abbrev pub join_end : List Program → JoinError → Ending
-join_end units (join.Missing unit routine) = tells program exit.own_refusal (join_text units (fault.Missing unit routine))
-join_end units (join.Twice unit routine) = tells program exit.own_refusal (join_text units (fault.Twice unit routine))
-join_end units (join.HeadDiffers unit routine) = tells program exit.own_refusal (join_text units (fault.HeadDiffers unit routine))
-join_end units (join.TooLarge unit) = tells program exit.own_refusal (join_text units (fault.TooLarge unit))
+join_end units (join.Missing unit routine) = join_refusal units (fault.Missing unit routine)
+join_end units (join.Twice unit routine) = join_refusal units (fault.Twice unit routine)
+join_end units (join.HeadDiffers unit routine) = join_refusal units (fault.HeadDiffers unit routine)
+join_end units (join.TooLarge unit) = join_refusal units (fault.TooLarge unit)
 join_end units join.Memory = no_memory program
 
 -- how a call ends that read these modules

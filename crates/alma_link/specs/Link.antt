@@ -34,6 +34,10 @@ join_text units (Twice unit routine) = import_text (codes "Twice ") units unit r
 join_text units (HeadDiffers unit routine) = import_text (codes "HeadDiffers ") units unit routine
 join_text units (TooLarge unit) = codes "TooLarge " ++ decimal unit
 
+-- the end of a call whose modules have it
+abbrev pub join_refusal : List Program → JoinFault → Ending
+join_refusal units fault = tells program exit.own_refusal (join_text units fault)
+
 -- ---- the plan
 
 -- what a task does with a program
@@ -44,7 +48,7 @@ task_plan (Compile object) p = store_plan program p object
 -- modules without a fault are joined, and others are refused
 abbrev pub unless_fault : Option JoinFault → Task → List Program → Plan Verdict Last
 unless_fault None task units = task_plan task (joined_program units)
-unless_fault (Some fault) task units = Ends (Tells (silent (tells program exit.own_refusal (join_text units fault))))
+unless_fault (Some fault) task units = Ends (Tells (silent (join_refusal units fault)))
 
 -- all modules are there
 abbrev pub join_plan : Task → List Program → Plan Verdict Last
@@ -55,10 +59,14 @@ abbrev pub files_plan : Task → (got : List Program) → (names : List (List �
 files_plan task got [] = join_plan task got
 files_plan task got (name ∷ names) = read_source name (λ p. files_plan task (got ++ p ∷ []) names)
 
+-- a word that cannot stand where it is, or one more than there are
+abbrev pub bad_word_plan : (word : ℕ) → Plan Verdict Last
+bad_word_plan word = Ends (Tells (silent (bad_word program word)))
+
 -- words that are a request, or not
 abbrev pub request_plan : Result Request ℕ → Plan Verdict Last
 request_plan (Ok r) = files_plan r.task [] r.files
-request_plan (Err word) = Ends (Tells (silent (bad_word program word)))
+request_plan (Err word) = bad_word_plan word
 
 -- a call with these words
 abbrev pub link_plan : (words : List (List ℕ)) → Plan Verdict Last

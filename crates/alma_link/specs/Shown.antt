@@ -6,7 +6,7 @@ use Rattle.alma_ir.specs.Tree.{Program}
 use Rattle.alma_join.specs.Joined.{JoinFault, join_fault, joined_program}
 use Rattle.alma_lower_sound.specs.Reads.{program_reads}
 use Rattle.alma_io.specs.Outside.{Outside}
-use Rattle.alma_plan.specs.Plan.{Due, silent, tells}
+use Rattle.alma_plan.specs.Plan.{Due, silent}
 use Rattle.alma_plan.specs.Meant.{IsMeant}
 use Rattle.alma_plan.specs.Programs.{refuse_source, storing, too_much_code}
 use Rattle.alma_plan.specs.Undisturbed.{ShowsDue}
@@ -14,9 +14,8 @@ use Rattle.alma_run_laws.specs.Shown.{size_of}
 use Rattle.alma_run_laws.specs.Stored.{SpellsCodeOf}
 use Rattle.alma_source.specs.Refusal.{IsProgramOf, IsRefused, place_of}
 use Rattle.alma_source.specs.declared.fault.SourceFault.{SourceFault}
-use Rattle.alma_driver_words.specs.Exit as exit
 use Rattle.alma_driver_words.specs.Words.{default_steps}
-use Rattle.alma_link.specs.Link.{program, failure, join_text}
+use Rattle.alma_link.specs.Link.{program, failure, join_refusal}
 use Rattle.alma_link.specs.Words.{Task, AsksForTask}
 
 -- each file has the source of its place, which is within its length
@@ -62,7 +61,7 @@ pub data ModulesEnd (Performs : Program → Type 0) (files sources : List (List 
       → ModulesEnd Performs files sources before after status
   -- all hold modules, and these cannot be joined: the first fault is told
   unjoined : (units : List Program) (fault : JoinFault) → AreModulesOf sources units → join_fault units ≡ Some fault
-      → ShowsDue before after status (silent (tells program exit.own_refusal (join_text units fault)))
+      → ShowsDue before after status (silent (join_refusal units fault))
       → ModulesEnd Performs files sources before after status
   -- the joined program is too large
   too_large : (units : List Program) → AreModulesOf sources units → join_fault units ≡ None → size_limit < size_of (joined_program units)

@@ -19,6 +19,7 @@ pub record Request : Type 0 where
   pub task : Task
   pub files : List (List ℕ)
 
+-- a request by its parts
 abbrev pub request : Task → (files : List (List ℕ)) → Request
 request task files = record { task = task; files = files }
 
@@ -29,11 +30,12 @@ bad_file before seen [] = cond (ltb before seen) None (Some (seen + 1))
 bad_file before seen (word ∷ words) =
     cond (is_file_name word && ltb seen (before + greatest_files)) (bad_file before (seen + 1) words) (Some (seen + 1))
 
--- a request whose files stand behind so many words, or its bad word
+-- a request, or its bad word
 abbrev pub unless_bad : Option ℕ → Request → Result Request ℕ
 unless_bad None r = Ok r
 unless_bad (Some word) r = Err word
 
+-- a request whose files stand behind so many words, or its bad word
 abbrev pub with_files : (before : ℕ) → Task → (files : List (List ℕ)) → Result Request ℕ
 with_files before task files = unless_bad (bad_file before before files) (request task files)
 
@@ -66,6 +68,7 @@ abbrev pub AsksForTask : (words : List (List ℕ)) → Task → (files : List (L
 AsksForTask words Run files = (words ≡ codes "run" ∷ files) × AreFiles files
 AsksForTask words (Compile object) files = (words ≡ codes "compile" ∷ object ∷ files) × (is_file_name object ≡ true) × AreFiles files
 
+-- the same of a request
 abbrev pub AsksFor : (words : List (List ℕ)) → Request → Type 0
 AsksFor words r = AsksForTask words r.task r.files
 

@@ -1,12 +1,11 @@
 //! Laws of linked modules: functions without work, whose contracts are the laws.
 ghost use Rattle.std.specs.Prelude.{◌≡◌, ◌⊎◌, List, ℕ, []};
-ghost use Rattle.alma_link.specs.Link.{failure, files_plan, link_plan, program};
+ghost use Rattle.alma_link.specs.Link.{bad_word_plan, failure, files_plan, link_plan, program};
 ghost use Rattle.alma_link.specs.Shown.{AsksForModules, IsGiven, ModulesEnd, ShowsObject, ShowsRun};
 ghost use Rattle.alma_link.specs.Words.{AsksFor, Compile, IsRequest, Request, Run};
 ghost use Rattle.alma_plan.specs.Causes.{Causes};
 ghost use Rattle.alma_io.specs.Outside.{Outside, IsUndisturbed};
-ghost use Rattle.alma_plan.specs.Plan.{Ends, bad_word, silent};
-ghost use Rattle.alma_plan.specs.Programs.{Tells, sense};
+ghost use Rattle.alma_plan.specs.Programs.{sense};
 ghost use Rattle.alma_driver_words.specs.BadWords.{IsBadWord};
 
 /// Words ask for a task with from 1 to 16 files, and the plan is that of the task; or one is the
@@ -15,7 +14,7 @@ pub fn words_are_a_request_or_have_a_bad_word()
     ensures request { (words : List (List ℕ)) (r : Request) → AsksFor words r
         → link_plan words ≡ files_plan r.task [] r.files }
     ensures bad_word { (words : List (List ℕ)) (k : ℕ) → IsBadWord IsRequest words k
-        → link_plan words ≡ Ends (Tells (silent (bad_word program k))) }
+        → link_plan words ≡ bad_word_plan k }
     ensures one_of_both { (words : List (List ℕ)) → IsRequest words
         ⊎ ((k : ℕ) × IsBadWord IsRequest words k) }
 {}

@@ -31,11 +31,11 @@ const PROGRAM: &[u8] = b"alma_link";
 fn routine_name(units: &[Program], unit: u32, routine: u32) -> &[u8]
     ensures { result.now ≡ (routine_at (unit_at (map program_of units.now) unit) routine).name }
 {
-    match units.get((unit as usize).saturating_sub(1)) {
-        Some(unit) => match unit.routines.get(routine as usize) {
-            Some(routine) => &routine.name,
-            None => b"",
-        },
+    let Some(found) = units.get((unit as usize).saturating_sub(1)) else {
+        return b"";
+    };
+    match found.routines.get(routine as usize) {
+        Some(routine) => &routine.name,
         None => b"",
     }
 }

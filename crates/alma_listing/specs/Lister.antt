@@ -56,11 +56,12 @@ write_globals before (g ∷ gs) rest =
 abbrev pub write_line : List Global → Stmts
 write_line gs = more_stmts 0 (WriteText (codes "{")) (write_globals [] gs (more_stmts 0 (WriteText (125 ∷ 10 ∷ [])) no_stmts))
 
--- how many statements write a global, and the line
+-- how many statements write a global of so many cells
 abbrev pub global_stmts : (cells : ℕ) → ℕ
 global_stmts zero = 1
 global_stmts (suc last) = 7
 
+-- how many statements write globals
 abbrev pub globals_stmts : List Global → ℕ
 globals_stmts [] = 0
 globals_stmts (g ∷ gs) = global_stmts g.cells + globals_stmts gs

@@ -89,6 +89,14 @@ listing n p input = (listing_text p.globals (ev_program n p input), closes (ev_p
 abbrev pub global_cells : Program → ℕ
 global_cells p = sum_by (λ g. g.cells) p.globals
 
+-- how many levels listing needs more at most
+abbrev pub more_levels : Program → ℕ
+more_levels p = 128 * (global_cells p + 1)
+
+-- how many visits the line of an alternative costs at most
+abbrev pub line_visits : Program → ℕ
+line_visits p = 128 * (global_cells p + length p.globals + 1)
+
 -- at each level it has no alternative of its own, and prints what is listed up to where its level
 -- ends; the level that it needs more, and the visits that it makes more, are bounded by the globals
 pub record ListsAt (q p : Program) (n : ℕ) (input : List ℕ) : Type 0 where
@@ -96,10 +104,10 @@ pub record ListsAt (q p : Program) (n : ℕ) (input : List ℕ) : Type 0 where
   pub prefix : IsPrefix (prints (ev_program n q input)) (listing_text p.globals (ev_program n p input))
   pub whole : ends_in_cut (ev_program n q input) ≡ false →
       (prints (ev_program n q input), closes (ev_program n q input)) ≡ listing n p input
-  pub reached : ends_in_cut (ev_program n p input) ≡ false → ends_in_cut (ev_program (n + 128 * (global_cells p + 1)) q input) ≡ false
+  pub reached : ends_in_cut (ev_program n p input) ≡ false → ends_in_cut (ev_program (n + more_levels p) q input) ≡ false
   pub visits : ends_in_cut (ev_program n q input) ≡ false →
       visit_count (ev_program n q input) ≤
-      visit_count (ev_program n p input) + 128 * (global_cells p + length p.globals + 1) * alternatives (ev_program n p input)
+      visit_count (ev_program n p input) + line_visits p * alternatives (ev_program n p input)
 
 -- for each level and input
 abbrev pub Lists : Program → Program → Type 0
@@ -125,5 +133,6 @@ EachReadsAlike lister = (p : Program) → program_reads (lister p) ≡ program_r
 abbrev pub ResultIsListing : Program → Program → Type 0
 ResultIsListing q p = (n : ℕ) (input : List ℕ) → (end_of (first (ev_program n q input)) ≡ CutOff → ⊥) → result n q input ≡ listing n p input
 
+-- and so it is with each program that lists another
 abbrev pub ListersGiveListings : Type 0
 ListersGiveListings = (q p : Program) → Lists q p → ResultIsListing q p

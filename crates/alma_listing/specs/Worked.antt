@@ -15,6 +15,7 @@ use Rattle.alma_listing.specs.Listing.{line_of_store, listing, closes, alternati
 abbrev pub with_globals : List Global → Program → Program
 with_globals gs p = record p { globals = gs }
 
+-- a variable
 abbrev pub global_at : List ℕ → (slot cells : ℕ) → Global
 global_at name slot cells = record { name = name; slot = slot; cells = cells }
 
@@ -44,9 +45,11 @@ IsListed n p out end =
 abbrev pub store_of : List Cell → Store
 store_of cells = record { routine = 0; link = 0; cells = cells } ∷ []
 
+-- a cell with this number
 abbrev pub cell : ℕ → Cell
 cell n = Number (pos n)
 
+-- what the programs above list
 pub record ListingsRun : Type 0 where
   pub two_lines : IsListed 5 two_of_three
       (codes "{x=" ++ (decimal 1 ++ (codes " y=?}\n" ++ (codes "{x=" ++ (decimal 3 ++ codes " y=?}\n"))))) Failed

@@ -22,6 +22,9 @@ const COUNT: u32 = 1;
 
 const LIMIT: u32 = 2;
 
+// How many they are.
+const SLOTS: u32 = 3;
+
 /// The procedure for these variables, at the line of the module.
 pub(crate) fn lister(alloc: Global, globals: &[Variable], line: u32) -> Result<Routine, NoMemory>
     ensures { IfOk result (λ r. routine_of r ≡ spec.lister line (map global_of globals.now)) }
@@ -33,7 +36,7 @@ pub(crate) fn lister(alloc: Global, globals: &[Variable], line: u32) -> Result<R
         params: Vec::new(alloc),
         result: None,
         declared: 0,
-        slots: 3,
+        slots: SLOTS,
         body,
         level: 1,
         outer: 0,
@@ -42,6 +45,7 @@ pub(crate) fn lister(alloc: Global, globals: &[Variable], line: u32) -> Result<R
     })
 }
 
+// The statements of the line: `{`, those of each global, and `}` with a line feed.
 fn write_line(alloc: Global, globals: &[Variable]) -> Result<Vec<Stmt>, NoMemory>
     ensures { IfOk result (λ v. stmts_list v.items ≡ spec.write_line (map global_of globals.now)) }
 {
@@ -53,6 +57,7 @@ fn write_line(alloc: Global, globals: &[Variable]) -> Result<Vec<Stmt>, NoMemory
     Ok(body)
 }
 
+// What stands before a global with so many in front of it.
 fn space_before(place: usize) -> &'static [u8]
     ensures { result.now ≡ space_before place }
 {
@@ -77,6 +82,7 @@ fn write_global(
     Ok(())
 }
 
+// The name of a global with what stands before it, and `=`.
 fn name_text(alloc: Global, before: &[u8], name: &[u8]) -> Result<Vec<u8>, NoMemory>
     ensures { IfOk result (λ v. v.items ≡ before.now ++ name.now ++ codes "=") }
 {
@@ -86,6 +92,7 @@ fn name_text(alloc: Global, before: &[u8], name: &[u8]) -> Result<Vec<u8>, NoMem
     Ok(text)
 }
 
+// The loop that writes the cells of a global, whose last has this number.
 fn cells_loop(alloc: Global, global: &Variable, last: u32) -> Result<Loop, NoMemory>
     requires { global.now.cells ≡ suc last }
     ensures { IfOk result (λ x. loop_of x ≡ spec.cells_loop global.now.slot last) }
@@ -104,21 +111,23 @@ fn cells_loop(alloc: Global, global: &Variable, last: u32) -> Result<Loop, NoMem
     })
 }
 
+// The statement that writes a comma before each cell but the first.
 fn write_comma(alloc: Global) -> Result<Stmt, NoMemory>
     ensures { IfOk result (λ x. stmt_of x ≡ spec.write_comma) }
 {
     let comma = one(alloc, text(alloc, b",")?)?;
-    let arms = when(alloc, Expr::Load(index(alloc)), comma)?;
+    let arms = one_arm(alloc, Expr::Load(index(alloc)), comma)?;
     Ok(Stmt::If(arms, Vec::new(alloc)))
 }
 
+// The statement that writes the cell, or a question mark where it is unknown.
 fn write_cell(alloc: Global, global: &Variable, last: u32) -> Result<Stmt, NoMemory>
     requires { global.now.cells ≡ suc last }
     ensures { IfOk result (λ x. stmt_of x ≡ spec.write_cell global.now.slot last) }
 {
     let number = Stmt::WriteExpr(Expr::Load(cell(alloc, global, last)?), WriteAs::Int);
     let number = one(alloc, number)?;
-    let arms = when(alloc, Expr::Known(cell(alloc, global, last)?), number)?;
+    let arms = one_arm(alloc, Expr::Known(cell(alloc, global, last)?), number)?;
     let unknown = one(alloc, text(alloc, b"?")?)?;
     Ok(Stmt::If(arms, unknown))
 }
@@ -136,6 +145,7 @@ fn cell(alloc: Global, global: &Variable, last: u32) -> Result<Desig, NoMemory>
     })
 }
 
+// The slot of the number of the cell.
 fn index(alloc: Global) -> Desig
     ensures { desig_of result ≡ a_desig (root.Local 0) 1 no_sels }
 {
@@ -146,6 +156,7 @@ fn index(alloc: Global) -> Desig
     }
 }
 
+// The numbers of the cells, up to the last.
 fn cell_range(last: u32) -> Range
     ensures { result ≡ spec.cell_range last }
 {
@@ -156,7 +167,7 @@ fn cell_range(last: u32) -> Range
 }
 
 // The arms of an IF with one condition.
-fn when(alloc: Global, cond: Expr, body: Vec<Stmt>) -> Result<Vec<Arm>, NoMemory>
+fn one_arm(alloc: Global, cond: Expr, body: Vec<Stmt>) -> Result<Vec<Arm>, NoMemory>
     ensures { IfOk result (λ v. arms_list v.items
         ≡ more_arms (Value (expr_of cond)) (stmts_list body.items) no_arms) }
 {
@@ -169,6 +180,7 @@ fn when(alloc: Global, cond: Expr, body: Vec<Stmt>) -> Result<Vec<Arm>, NoMemory
     )
 }
 
+// The statement that writes a text.
 fn text(alloc: Global, bytes: &[u8]) -> Result<Stmt, NoMemory>
     ensures { IfOk result (λ x. stmt_of x ≡ WriteText bytes.now) }
 {

@@ -69,12 +69,14 @@ fn same_numbers() -> Moves<'static>
     }
 }
 
+// A copy of a name.
 fn copy_name(alloc: Global, name: &[u8]) -> Result<Vec<u8>, NoMemory>
     ensures { IfOk result (λ v. v.items ≡ name.now) }
 {
     Ok(name.to_vec(alloc)?)
 }
 
+// The program that lists another in whose body no RETURN stands.
 fn copy_program(alloc: Global, program: &Program) -> Result<Program, NoMemory>
     requires body { 0 < length program.now.routines.items }
     requires few { length program.now.routines.items < 4294967295 }
@@ -110,6 +112,7 @@ fn copy_routines(
     Ok(copies)
 }
 
+// The variables of the module, at their slots.
 fn copy_globals(alloc: Global, globals: &[Variable]) -> Result<Vec<Variable>, NoMemory>
     ensures { IfOk result (λ v. map global_of v.items ≡ map global_of globals.now) }
 {

@@ -5,7 +5,7 @@ use Rattle.alma_driver_words.specs.Exit as exit
 use Rattle.alma_machine.specs.declared.machine.RunEnd.{RunEnd}
 use Rattle.alma_machine.specs.declared.machine.RunEnd.TheVariants as run
 use Rattle.alma_plan.specs.declared.stop.Stop.TheVariants as stop
-use Rattle.alma_plan.specs.Plan.{Ending, success, tells}
+use Rattle.alma_plan.specs.Plan.{Ending, steps_out, success, tells}
 use Rattle.alma_plan.specs.Refusals.{stop_end}
 use Rattle.alma_plan.specs.Programs.{end_of, refuse_source}
 use Rattle.alma_plan.specs.declared.end.ProgramEnd.{ProgramEnd}
@@ -20,7 +20,7 @@ use Rattle.alma_unit.specs.declared.unit.UnitError.TheVariants as unit
 abbrev pub program_end : (program : List ℕ) → (failed : Ending) → ProgramEnd → Ending
 program_end program failed (Ended end line) = end_of program failed end line
 program_end program failed Stored = success
-program_end program failed StepsOut = tells program exit.steps_out (codes "steps out")
+program_end program failed StepsOut = steps_out program
 program_end program failed (TooMuchCode size) = tells program exit.too_much_code (codes "too much code " ++ decimal size)
 program_end program failed (Stopped stop) = stop_end program stop
 

@@ -19,5 +19,6 @@ abbrev pub refusal_by : (program : List ℕ) → Option ObjectFault → Option V
 refusal_by program None rule = rule_refusal program rule
 refusal_by program (Some fault) rule = Some (tells program exit.bad_object (object_fault_text fault))
 
+-- of the bytes of an object, which is refused for the first of both
 abbrev pub object_refusal : (program bytes : List ℕ) → Option Ending
 object_refusal program bytes = refusal_by program (object_fault bytes) (code_fault (object_code bytes))

@@ -35,17 +35,25 @@ tells program status text = ending_of status (line_of program text)
 abbrev pub bad_word : (program : List ℕ) → (word : ℕ) → Ending
 bad_word program word = tells program exit.bad_word (codes "bad word " ++ decimal word)
 
+-- a file is missing, or a fetch or a read of the input failed
 abbrev pub read_fault : (program : List ℕ) → Ending
 read_fault program = tells program exit.read_fault (codes "read fault")
 
+-- a write or a store failed
 abbrev pub write_fault : (program : List ℕ) → Ending
 write_fault program = tells program exit.write_fault (codes "write fault")
 
+-- memory ran out
 abbrev pub no_memory : (program : List ℕ) → Ending
 no_memory program = tells program exit.no_memory (codes "out of memory")
 
+-- a file or the input is past its greatest length
 abbrev pub too_long : (program : List ℕ) → Ending
 too_long program = tells program exit.too_long (codes "too long")
+
+-- all steps of a run were made, and it was not at its end
+abbrev pub steps_out : (program : List ℕ) → Ending
+steps_out program = tells program exit.steps_out (codes "steps out")
 
 -- success, without a word on err
 abbrev pub success : Ending

@@ -20,7 +20,7 @@ use Rattle.alma_lower.specs.CodeFor.{IsCodeFor}
 use Rattle.alma_source.specs.Texts.{refusal_text}
 use Rattle.alma_source.specs.Verdict.{Verdict, Accepted, Rejected, IsVerdict}
 use Rattle.alma_source.specs.declared.fault.SourceFault.{SourceFault}
-use Rattle.alma_plan.specs.Plan.{Due, Ending, Plan, Sense, Fetches, Judges, Reads, Ends, ending_of, silent, success, tells}
+use Rattle.alma_plan.specs.Plan.{Due, Ending, Plan, Sense, Fetches, Judges, Reads, Ends, ending_of, silent, steps_out, success, tells}
 
 -- ---- what is due
 
@@ -35,6 +35,7 @@ pub data Last : Type 0 where
 abbrev pub named_words : (name : List ℕ) → (line : ℕ) → List ℕ
 named_words name line = codes "fault " ++ (name ++ line_text (known_line line))
 
+-- the same by the fault
 abbrev pub fault_words : RunFault → (line : ℕ) → List ℕ
 fault_words fault line = named_words (run_fault_text fault) line
 
@@ -53,9 +54,9 @@ module _ (program : List ℕ) (failed : Ending) where
   -- that of one which is left in this mode
   abbrev pub mode_end : Mode → (line : ℕ) → Ending
   mode_end (Ended end) line = end_of end line
-  mode_end Going line = tells program exit.steps_out (codes "steps out")
-  mode_end Failing line = tells program exit.steps_out (codes "steps out")
-  mode_end Stuck line = tells program exit.steps_out (codes "steps out")
+  mode_end Going line = steps_out program
+  mode_end Failing line = steps_out program
+  mode_end Stuck line = steps_out program
 
   -- what a run of code on an input for so many steps comes to
   abbrev pub code_due : PlainCode → (input : List ℕ) → (steps : ℕ) → Due
@@ -65,6 +66,7 @@ module _ (program : List ℕ) (failed : Ending) where
     stored = None;
   }
 
+  -- what is due is that
   abbrev pub IsRun : PlainCode → (input : List ℕ) → (steps : ℕ) → Due → Type 0
   IsRun code input steps due = due ≡ code_due code input steps
 
@@ -91,6 +93,7 @@ abbrev pub unless_large : (is_large : Bool) → (program : List ℕ) → Program
 unless_large true program p next = Ends (Tells (silent (too_much_code program p)))
 unless_large false program p next = next
 
+-- the same by the size of the program
 abbrev pub within_size : (program : List ℕ) → Program → Plan Verdict Last → Plan Verdict Last
 within_size program p next = unless_large (ltb size_limit (size_of p)) program p next
 

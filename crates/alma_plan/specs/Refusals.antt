@@ -16,12 +16,14 @@ use Rattle.alma_plan.specs.declared.stop.Stop.TheVariants.{Read, Write, Memory, 
 
 -- ---- what stops any call
 
+-- its status
 abbrev pub stop_status : Stop → ℕ
 stop_status Read = exit.read_fault
 stop_status Write = exit.write_fault
 stop_status Memory = exit.no_memory
 stop_status TooLong = exit.too_long
 
+-- its text, behind the name of the program
 abbrev pub stop_text : Stop → List ℕ
 stop_text Read = codes "read fault"
 stop_text Write = codes "write fault"
@@ -32,13 +34,14 @@ stop_text TooLong = codes "too long"
 abbrev pub stop_end : (program : List ℕ) → Stop → Ending
 stop_end program stop = tells program (stop_status stop) (stop_text stop)
 
--- what a fetch, and what reading the input, stops at
+-- what a fetch stops at
 abbrev pub fetch_stop : Fetch → Stop
 fetch_stop fetch.Absent = Read
 fetch_stop fetch.Failed = Read
 fetch_stop fetch.TooLong = TooLong
 fetch_stop fetch.Memory = Memory
 
+-- what reading the input stops at
 abbrev pub read_stop : ReadAll → Stop
 read_stop whole.Fault = Read
 read_stop whole.TooLong = TooLong

@@ -1,8 +1,8 @@
 // What is said on err of the end of a program, and of a file that is refused.
-ghost use Rattle.std.specs.Prelude.{[], codes, decimal};
+ghost use Rattle.std.specs.Prelude.{[], decimal};
 ghost use Rattle.alma_driver_words.specs.Exit as exit;
 ghost use Rattle.alma_plan.specs.Course.{Reports};
-ghost use Rattle.alma_plan.specs.Plan.{ending_of, tells};
+ghost use Rattle.alma_plan.specs.Plan.{ending_of, steps_out, tells};
 ghost use Rattle.alma_plan.specs.Ends.{program_end};
 ghost use Rattle.alma_plan.specs.Programs.{fault_words, named_words, refuse_source};
 ghost use Rattle.alma_source.specs.Texts.{refusal_line};
@@ -47,8 +47,7 @@ fn tell_fault<E: Sink>(err: &mut E, program: &[u8], fault: RunFault, line: u32) 
 
 // Says that all steps were made.
 fn tell_steps_out<E: Sink>(err: &mut E, program: &[u8]) -> Status
-    ensures { Reports (tells program.now exit.steps_out (codes "steps out")) (E.side err.old)
-        (E.side err.new) result.0 }
+    ensures { Reports (steps_out program.now) (E.side err.old) (E.side err.new) result.0 }
 {
     refuse_with(err, program, exit::STEPS_OUT, b"steps out")
 }

@@ -16,9 +16,9 @@ use Rattle.alma_plan.specs.Undisturbed.{ShowsDue}
 use Rattle.alma_plan.proofs.SpelledObjects.{spelled_short}
 use Rattle.alma_plan.proofs.ToldLemmas.{fetch_asks, fetch_comes, read_comes}
 use Rattle.alma_plan.proofs.UndisturbedLemmas.{call_shows_due}
-use Rattle.alma_pool.specs.Due.{program, turns_limit, turns_in, bad_turn_behind, pool_text, opening, played_on, play_plan, judged_by}
+use Rattle.alma_pool.specs.Due.{program, turns_limit, turns_in, bad_turn_behind, pool_text, open_objects, played_on, play_plan, judged_by}
 use Rattle.alma_pool.specs.Due.{verify_plan}
-use Rattle.alma_pool.specs.Due.{fetching, fetch_plan, pool_plan}
+use Rattle.alma_pool.specs.Due.{objects_plan, fetch_plan, pool_plan}
 use Rattle.alma_pool.specs.Shown.{HaveObjectsOf, PlaysPrograms, ShowsPrograms}
 use Rattle.alma_pool.proofs.Objects.{object_codes, pool_alike, objects_count, objects_open, objects_read, objects_show}
 use Rattle.alma_pool.proofs.WordLemmas.{request_planned}
@@ -44,23 +44,23 @@ module _ (told : List ℕ → Told) (name : List ℕ) (missing : told name ≡ M
   opened_lacks (Err end) turns asks = asks
 
   judged_lacks : (bad : Option ℕ) (turns : List ℕ) (objects : List (List ℕ)) → AsksOf told (judged_by bad turns objects) name → ⊥
-  judged_lacks None turns objects asks = opened_lacks (opening [] objects) (turns_in turns) asks
+  judged_lacks None turns objects asks = opened_lacks (open_objects [] objects) (turns_in turns) asks
   judged_lacks (Some turn) turns objects asks = asks
 
   files_lack : (turns : List ℕ) (got files objects : List (List ℕ)) (programs : List Program) → HaveObjectsOf told files objects programs
-      → AsksOf told (fetching turns got files) name → ⊥
+      → AsksOf told (objects_plan turns got files) name → ⊥
   files_lack turns got [] objects programs has asks = judged_lacks (bad_turn_behind (length got) 0 turns) turns got asks
   files_lack turns got (file ∷ files) [] programs has asks = has
   files_lack turns got (file ∷ files) (bytes ∷ objects) [] has asks = has
   files_lack turns got (file ∷ files) (bytes ∷ objects) (p ∷ programs) has asks =
-      let more = fetch_asks plain program told file bytes name object_limit (λ b. fetching turns (got ++ b ∷ []) files) has.0 missing
+      let more = fetch_asks plain program told file bytes name object_limit (λ b. objects_plan turns (got ++ b ∷ []) files) has.0 missing
       asks in
       files_lack turns (got ++ more.0 ∷ []) files objects programs has.2 more.1
 
   pub call_lacks : (file turns : List ℕ) (files objects : List (List ℕ)) (programs : List Program) → told file ≡ Has turns
       → HaveObjectsOf told files objects programs → AsksOf told (fetch_plan (file ∷ files)) name → ⊥
   call_lacks file turns files objects programs has all asks =
-      let more = fetch_asks plain program told file turns name turns_limit (λ b. fetching b [] files) has missing asks in
+      let more = fetch_asks plain program told file turns name turns_limit (λ b. objects_plan b [] files) has missing asks in
       files_lack more.0 [] files objects programs all more.1
 
 -- ---- what comes of the files
@@ -80,7 +80,7 @@ module _ (told : List ℕ → Told) (left : Option (List ℕ)) (reading : Readin
 -- the objects are fetched, behind those that were
 files_come : (told : List ℕ → Told) (left : Option (List ℕ)) (reading : Reading) (due : Due) (turns : List ℕ)
     (got files objects : List (List ℕ)) (programs : List Program)
-    → HaveObjectsOf told files objects programs → ComesOf told left reading due (fetching turns got files)
+    → HaveObjectsOf told files objects programs → ComesOf told left reading due (objects_plan turns got files)
     → ComesOf told left reading due (verify_plan turns (got ++ objects))
 files_come told left reading due turns got [] [] [] has c =
     subst (λ (all : List (List ℕ)). ComesOf told left reading due (verify_plan turns all)) (sym (append-nil got)) c
@@ -89,7 +89,7 @@ files_come told left reading due turns got [] (bytes ∷ objects) programs has c
 files_come told left reading due turns got (file ∷ files) [] programs has c = absurd has
 files_come told left reading due turns got (file ∷ files) (bytes ∷ objects) [] has c = absurd has
 files_come told left reading due turns got (file ∷ files) (bytes ∷ objects) (p ∷ programs) has c =
-    let next = fetch_comes plain program told left reading due file bytes object_limit (λ b. fetching turns (got ++ b ∷ []) files)
+    let next = fetch_comes plain program told left reading due file bytes object_limit (λ b. objects_plan turns (got ++ b ∷ []) files)
     has.0 (spelled_short p bytes has.1) c in
     subst (λ (all : List (List ℕ)). ComesOf told left reading due (verify_plan turns all)) (append_assoc got (bytes ∷ []) objects)
     (files_come told left reading due turns (got ++ bytes ∷ []) files objects programs has.2 next)
@@ -118,7 +118,7 @@ module _ (words : List (List ℕ)) (turns : List ℕ) (programs : List Program) 
   call_due reading due c =
       let all = object_codes a.objects in
       let fetched = fetch_comes plain program before.files.told before.input.left reading due a.file turns turns_limit
-      (λ b. fetching b [] a.files) a.turns_told a.turns_short c in
+      (λ b. objects_plan b [] a.files) a.turns_told a.turns_short c in
       let there = files_come before.files.told before.input.left reading due turns [] a.files a.objects programs a.told fetched in
       let good = subst (λ (bad : Option ℕ). MayComeOf reading due (judged_by bad turns a.objects)) turns_are_good there in
       let opened = subst (λ (r : Result (List PlainCode) Ending). MayComeOf reading due (play_plan r (turns_in turns)))

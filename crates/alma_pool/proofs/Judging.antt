@@ -13,7 +13,7 @@ use Rattle.alma_plan.specs.Refusals.{refusal_end}
 use Rattle.alma_plan.specs.declared.refusal.Refusal.{Refusal}
 use Rattle.alma_plan.proofs.Courses.{course_ends, course_starved, gains_none}
 use Rattle.alma_plan.specs.Objects.{object_refusal}
-use Rattle.alma_pool.specs.Due.{program, or_refused, opening, play_plan, judged_by, verify_plan, bad_turn_behind, turns_in}
+use Rattle.alma_pool.specs.Due.{program, or_refused, open_objects, play_plan, judged_by, verify_plan, bad_turn_behind, turns_in}
 use Rattle.alma_pool.specs.Inner.{codes_of, IsRefused}
 
 -- as many codes as objects
@@ -21,16 +21,16 @@ opened_ok : (o : Option Ending) (rest : Result (List PlainCode) Ending) (all : L
 opened_ok None rest all e = e
 opened_ok (Some end) rest all e = cc e
 
-opening_count : (got : List PlainCode) (objects : List (List ℕ)) (all : List PlainCode) → opening got objects ≡ Ok all
+opening_count : (got : List PlainCode) (objects : List (List ℕ)) (all : List PlainCode) → open_objects got objects ≡ Ok all
     → length all ≡ length got + length objects
 opening_count got [] all e =
     let same : got ≡ all = cc e in
     omega (arith, ap (λ (xs : List PlainCode). length xs) same)
 opening_count got (bytes ∷ objects) all e =
-    let rest = opened_ok (object_refusal program bytes) (opening (got ++ object_code bytes ∷ []) objects) all e in
+    let rest = opened_ok (object_refusal program bytes) (open_objects (got ++ object_code bytes ∷ []) objects) all e in
     omega (arith, opening_count (got ++ object_code bytes ∷ []) objects all rest, length-append got (object_code bytes ∷ []))
 
-pub opened_count : (objects : List (List ℕ)) (verified : List Verified) → opening [] objects ≡ Ok (codes_of verified)
+pub opened_count : (objects : List (List ℕ)) (verified : List Verified) → open_objects [] objects ≡ Ok (codes_of verified)
     → length verified ≡ length objects
 opened_count objects verified e = omega (arith, opening_count [] objects (codes_of verified) e, length-map verified code_of_verified)
 
@@ -43,9 +43,9 @@ silent_end end files input out = course_ends plain program (silent end) files in
 -- an object is refused, or memory ran out before it was known
 pub played_refused : (objects : List (List ℕ)) (turns : List ℕ) (refusal : Refusal) (files : FilesSide) (input : SourceSide)
     (out : SinkSide) → IsRefused objects refusal
-    → Follows plain program (play_plan (opening [] objects) turns) files files input input out out (refusal_end program refusal)
+    → Follows plain program (play_plan (open_objects [] objects) turns) files files input input out out (refusal_end program refusal)
 played_refused objects turns refusal files input out (inl e) =
-    subst (λ (end : Ending). Follows plain program (play_plan (opening [] objects) turns) files files input input out out end)
+    subst (λ (end : Ending). Follows plain program (play_plan (open_objects [] objects) turns) files files input input out out end)
     (sym (ap (refusal_end program) e))
     (course_starved program _ _ files input out)
 played_refused objects turns refusal files input out (inr e) =
@@ -65,7 +65,7 @@ module _ (turns : List ℕ) (objects : List (List ℕ)) (files : FilesSide) (inp
 
   -- all may
   pub judged_good : (end : Ending) → bad_turn_behind (length objects) 0 turns ≡ None
-      → Follows plain program (play_plan (opening [] objects) (turns_in turns)) files files input input' out out' end
+      → Follows plain program (play_plan (open_objects [] objects) (turns_in turns)) files files input input' out out' end
       → Follows plain program (verify_plan turns objects) files files input input' out out' end
   judged_good end e follows =
       subst (λ (bad : Option ℕ). Follows plain program (judged_by bad turns objects) files files input input' out out' end) (sym e) follows

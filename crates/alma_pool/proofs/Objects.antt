@@ -18,7 +18,7 @@ use Rattle.alma_run_laws.proofs.Meant.{code_shows}
 use Rattle.alma_plan.proofs.SpelledObjects.{spelled_accepted}
 use Rattle.alma_run_laws.proofs.Unread.{after_alike, prints_alike}
 use Rattle.alma_verify.specs.Bytes.{object_code}
-use Rattle.alma_pool.specs.Due.{program, or_refused, opening, end_text, program_lines, program_text, pool_text}
+use Rattle.alma_pool.specs.Due.{program, or_refused, open_objects, end_text, program_lines, program_text, pool_text}
 use Rattle.alma_pool.specs.Pool.{lone, ended_in, turns_of}
 use Rattle.alma_pool.specs.Shown.{HaveObjectsOf, ShowsEach, none as none_shown, one_more as one_more_shown, meant_words}
 
@@ -81,14 +81,14 @@ module _ (told : List ℕ → Told) where
 
   -- they are opened
   pub objects_open : (got : List PlainCode) (files objects : List (List ℕ)) (programs : List Program)
-      → HaveObjectsOf told files objects programs → opening got objects ≡ Ok (got ++ object_codes objects)
+      → HaveObjectsOf told files objects programs → open_objects got objects ≡ Ok (got ++ object_codes objects)
   objects_open got [] [] [] has = ap (λ (all : List PlainCode). Ok all) (sym (append-nil got))
   objects_open got [] [] (p ∷ programs) has = absurd has
   objects_open got [] (bytes ∷ objects) programs has = absurd has
   objects_open got (file ∷ files) [] programs has = absurd has
   objects_open got (file ∷ files) (bytes ∷ objects) [] has = absurd has
   objects_open got (file ∷ files) (bytes ∷ objects) (p ∷ programs) has =
-      let rest = opening (got ++ object_code bytes ∷ []) objects in
+      let rest = open_objects (got ++ object_code bytes ∷ []) objects in
       ap (λ (refused : Option Ending). or_refused refused rest) (spelled_accepted program p bytes has.1)
       ∙ objects_open (got ++ object_code bytes ∷ []) files objects programs has.2
       ∙ ap (λ (all : List PlainCode). Ok all) (append_assoc got (object_code bytes ∷ []) (object_codes objects))

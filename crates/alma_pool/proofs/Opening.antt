@@ -11,7 +11,7 @@ use Rattle.alma_verify.specs.Verified.{code_of_verified}
 use Rattle.alma_verify.specs.declared.verified.Verified.{Verified}
 use Rattle.alma_plan.specs.Plan.{Ending}
 use Rattle.alma_plan.specs.Objects.{object_refusal}
-use Rattle.alma_pool.specs.Due.{program, or_refused, opening}
+use Rattle.alma_pool.specs.Due.{program, or_refused, open_objects}
 use Rattle.alma_pool.specs.Inner.{all_bytes, codes_of}
 
 -- what is left of a list from one of its items on
@@ -20,28 +20,29 @@ drop_here xs i x d within is = drop_more xs i d within ∙ ap (λ y. y ∷ drop 
 
 module _ (objects : List (Vec ℕ)) (i : ℕ) (object d : Vec ℕ) (got : List PlainCode) (within : i < length objects)
     (is : object ≡ get_or objects i d)
-    (before : opening [] (all_bytes objects) ≡ opening got (all_bytes (drop i objects))) where
+    (before : open_objects [] (all_bytes objects) ≡ open_objects got (all_bytes (drop i objects))) where
   -- what comes of the objects, from one of them on
-  opening_here : opening [] (all_bytes objects)
-      ≡ or_refused (object_refusal program object.items) (opening (got ++ object_code object.items ∷ []) (all_bytes (drop (i + 1) objects)))
-  opening_here = before ∙ ap (λ xs. opening got (all_bytes xs)) (drop_here objects i object d within is)
+  opening_here : open_objects [] (all_bytes objects)
+      ≡ or_refused (object_refusal program object.items)
+      (open_objects (got ++ object_code object.items ∷ []) (all_bytes (drop (i + 1) objects)))
+  opening_here = before ∙ ap (λ xs. open_objects got (all_bytes xs)) (drop_here objects i object d within is)
 
   -- it is refused
-  pub opening_stops : (end : Ending) → object_refusal program object.items ≡ Some end → opening [] (all_bytes objects) ≡ Err end
+  pub opening_stops : (end : Ending) → object_refusal program object.items ≡ Some end → open_objects [] (all_bytes objects) ≡ Err end
   opening_stops end refused =
-      opening_here ∙ ap (λ o. or_refused o (opening (got ++ object_code object.items ∷ []) (all_bytes (drop (i + 1) objects)))) refused
+      opening_here ∙ ap (λ o. or_refused o (open_objects (got ++ object_code object.items ∷ []) (all_bytes (drop (i + 1) objects)))) refused
 
   -- it is not
   pub opening_more : (code : PlainCode) → object_refusal program object.items ≡ None → code ≡ object_code object.items
-      → opening [] (all_bytes objects) ≡ opening (got ++ code ∷ []) (all_bytes (drop (i + 1) objects))
+      → open_objects [] (all_bytes objects) ≡ open_objects (got ++ code ∷ []) (all_bytes (drop (i + 1) objects))
   opening_more code clean same =
-      opening_here ∙ ap (λ o. or_refused o (opening (got ++ object_code object.items ∷ []) (all_bytes (drop (i + 1) objects)))) clean
-      ∙ ap (λ k. opening (got ++ k ∷ []) (all_bytes (drop (i + 1) objects))) (sym same)
+      opening_here ∙ ap (λ o. or_refused o (open_objects (got ++ object_code object.items ∷ []) (all_bytes (drop (i + 1) objects)))) clean
+      ∙ ap (λ k. open_objects (got ++ k ∷ []) (all_bytes (drop (i + 1) objects))) (sym same)
 
 -- all were opened
 pub opening_ends : (objects : List (Vec ℕ)) (i : ℕ) (got : List PlainCode) → length objects ≤ i
-    → opening [] (all_bytes objects) ≡ opening got (all_bytes (drop i objects)) → opening [] (all_bytes objects) ≡ Ok got
-opening_ends objects i got all before = before ∙ ap (λ xs. opening got (all_bytes xs)) (drop_all i objects all)
+    → open_objects [] (all_bytes objects) ≡ open_objects got (all_bytes (drop i objects)) → open_objects [] (all_bytes objects) ≡ Ok got
+opening_ends objects i got all before = before ∙ ap (λ xs. open_objects got (all_bytes xs)) (drop_all i objects all)
 
 -- the codes of verified views and one more
 pub codes_more : (verified : List Verified) (one : Verified)

@@ -9,9 +9,8 @@ use Rattle.alma_plan.specs.Objects.{object_refusal}
 use Rattle.alma_plan.specs.Plan.{Ending, silent, prints, plain}
 use Rattle.alma_plan.proofs.OwnEnds.{HasOwnEnds}
 use Rattle.alma_plan.proofs.PlainEnds.{own_status, refusal_status}
-use Rattle.alma_pool.specs.Due.{program, pool_text, or_refused, opening, played_on, play_plan, judged_by, fetching, fetch_plan, words_plan}
-use Rattle.alma_pool.specs.Due.{pool_plan}
-use Rattle.alma_pool.specs.Due.{bad_word_behind}
+use Rattle.alma_pool.specs.Due.{program, pool_text, or_refused, open_objects, played_on, play_plan, judged_by, objects_plan, fetch_plan}
+use Rattle.alma_pool.specs.Due.{words_plan, pool_plan, bad_word_behind}
 
 -- ---- objects
 
@@ -23,10 +22,10 @@ opened_status (Some x) rest end this more e =
     let same : x ≡ end = cc e in
     sym (ap (λ (y : Ending). y.status) same) ∙ this x refl
 
-opening_status : (got : List PlainCode) (objects : List (List ℕ)) (end : Ending) → opening got objects ≡ Err end → end.status ≡ 9
+opening_status : (got : List PlainCode) (objects : List (List ℕ)) (end : Ending) → open_objects got objects ≡ Err end → end.status ≡ 9
 opening_status got [] end e = cc e
 opening_status got (bytes ∷ objects) end e =
-    opened_status (object_refusal program bytes) (opening (got ++ object_code bytes ∷ []) objects) end (refusal_status program bytes)
+    opened_status (object_refusal program bytes) (open_objects (got ++ object_code bytes ∷ []) objects) end (refusal_status program bytes)
     (opening_status (got ++ object_code bytes ∷ []) objects end) e
 
 -- ---- all its ends
@@ -41,10 +40,10 @@ own_played (Ok all) turns refused = own_on (list_any code_reads all) all turns
 own_played (Err end) turns refused = own_status (silent end) 9 (refused end refl) (inr (omega arith))
 
 own_judged : (bad : Option ℕ) (turns : List ℕ) (objects : List (List ℕ)) → HasOwnEnds plain (judged_by bad turns objects)
-own_judged None turns objects = own_played (opening [] objects) _ (opening_status [] objects)
+own_judged None turns objects = own_played (open_objects [] objects) _ (opening_status [] objects)
 own_judged (Some turn) turns objects = own_status _ 13 refl (inr (omega arith))
 
-own_fetching : (turns : List ℕ) (got names : List (List ℕ)) → HasOwnEnds plain (fetching turns got names)
+own_fetching : (turns : List ℕ) (got names : List (List ℕ)) → HasOwnEnds plain (objects_plan turns got names)
 own_fetching turns got [] = own_judged _ turns got
 own_fetching turns got (name ∷ names) = λ bytes. own_fetching turns (got ++ bytes ∷ []) names
 

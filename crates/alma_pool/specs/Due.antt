@@ -55,6 +55,7 @@ bad_turn_behind programs seen (byte ∷ bytes) = unless (is_turn programs byte) 
 abbrev pub turn_in : (byte : ℕ) → List ℕ
 turn_in byte = cond (eqb byte 10) [] ((byte - 97) ∷ [])
 
+-- those of all bytes
 abbrev pub turns_in : List ℕ → List ℕ
 turns_in bytes = flat_map turn_in bytes
 
@@ -73,6 +74,7 @@ program_lines number ended output =
     codes "program " ++ (decimal number ++ (codes " "
     ++ (ended ++ (codes " bytes " ++ (decimal (length output) ++ (codes "\n" ++ (output ++ codes "\n")))))))
 
+-- the same by what is seen of its run
 abbrev pub program_text : (number : ℕ) → Lone → List ℕ
 program_text number l = program_lines number (end_text l.end) l.output
 
@@ -84,14 +86,15 @@ pool_text before (code ∷ more) input turns =
 
 -- ---- the objects
 
--- the codes of objects, behind those that were, or the end that the first brings about which is refused
+-- what comes of the rest, unless an object is refused
 abbrev pub or_refused : Option Ending → Result (List PlainCode) Ending → Result (List PlainCode) Ending
 or_refused None rest = rest
 or_refused (Some end) rest = Err end
 
-abbrev pub opening : (got : List PlainCode) → (objects : List (List ℕ)) → Result (List PlainCode) Ending
-opening got [] = Ok got
-opening got (bytes ∷ objects) = or_refused (object_refusal program bytes) (opening (got ++ object_code bytes ∷ []) objects)
+-- the codes of objects, behind those that were, or the end that the first brings about which is refused
+abbrev pub open_objects : (got : List PlainCode) → (objects : List (List ℕ)) → Result (List PlainCode) Ending
+open_objects got [] = Ok got
+open_objects got (bytes ∷ objects) = or_refused (object_refusal program bytes) (open_objects (got ++ object_code bytes ∷ []) objects)
 
 -- ---- the plan
 
@@ -100,31 +103,43 @@ abbrev pub played_on : (reads : Bool) → List PlainCode → (turns : List ℕ) 
 played_on true all turns = Reads (λ input. prints (pool_text 0 all input turns))
 played_on false all turns = Ends (prints (pool_text 0 all [] turns))
 
+-- codes take turns, unless an object was refused
 abbrev pub play_plan : Result (List PlainCode) Ending → (turns : List ℕ) → Plan ⊥ Due
 play_plan (Ok all) turns = played_on (list_any code_reads all) all turns
 play_plan (Err end) turns = Ends (silent end)
 
--- all files are there
-abbrev pub judged_by : (bad_turn : Option ℕ) → (turns : List ℕ) → (objects : List (List ℕ)) → Plan ⊥ Due
-judged_by (Some turn) turns objects = Ends (silent (tells program exit.own_refusal (codes "bad turn " ++ decimal turn)))
-judged_by None turns objects = play_plan (opening [] objects) (turns_in turns)
+-- the end for a byte, from 1, that may not stand in the file of turns
+abbrev pub bad_turn : (turn : ℕ) → Ending
+bad_turn turn = tells program exit.own_refusal (codes "bad turn " ++ decimal turn)
 
+-- all files are there
+abbrev pub judged_by : (bad : Option ℕ) → (turns : List ℕ) → (objects : List (List ℕ)) → Plan ⊥ Due
+judged_by (Some turn) turns objects = Ends (silent (bad_turn turn))
+judged_by None turns objects = play_plan (open_objects [] objects) (turns_in turns)
+
+-- the first bad byte of the file of turns comes before any fault of an object
 abbrev pub verify_plan : (turns : List ℕ) → (objects : List (List ℕ)) → Plan ⊥ Due
 verify_plan turns objects = judged_by (bad_turn_behind (length objects) 0 turns) turns objects
 
 -- the objects of these names are fetched, behind those that were
-abbrev pub fetching : (turns : List ℕ) → (got : List (List ℕ)) → (names : List (List ℕ)) → Plan ⊥ Due
-fetching turns got [] = verify_plan turns got
-fetching turns got (name ∷ names) = Fetches name object_limit (λ bytes. fetching turns (got ++ bytes ∷ []) names)
+abbrev pub objects_plan : (turns : List ℕ) → (got : List (List ℕ)) → (names : List (List ℕ)) → Plan ⊥ Due
+objects_plan turns got [] = verify_plan turns got
+objects_plan turns got (name ∷ names) = Fetches name object_limit (λ bytes. objects_plan turns (got ++ bytes ∷ []) names)
+
+-- a word that cannot stand where it is, or one more than there are
+abbrev pub bad_word_plan : (word : ℕ) → Plan ⊥ Due
+bad_word_plan word = Ends (silent (bad_word program word))
 
 -- words that can stand
 abbrev pub fetch_plan : List (List ℕ) → Plan ⊥ Due
-fetch_plan [] = Ends (silent (bad_word program 1))
-fetch_plan (turns ∷ objects) = Fetches turns turns_limit (λ bytes. fetching bytes [] objects)
+fetch_plan [] = bad_word_plan 1
+fetch_plan (turns ∷ objects) = Fetches turns turns_limit (λ bytes. objects_plan bytes [] objects)
 
+-- words of which this is the first bad one, or none is
 abbrev pub words_plan : (bad : Option ℕ) → (words : List (List ℕ)) → Plan ⊥ Due
-words_plan (Some word) words = Ends (silent (bad_word program word))
+words_plan (Some word) words = bad_word_plan word
 words_plan None words = fetch_plan words
 
+-- a call with these words
 abbrev pub pool_plan : (words : List (List ℕ)) → Plan ⊥ Due
 pool_plan words = words_plan (bad_word_behind 0 words) words

@@ -11,31 +11,33 @@ use Rattle.alma_plan.specs.Refusals.{refusal_end}
 use Rattle.alma_plan.specs.declared.refusal.Refusal.{Refusal}
 use Rattle.alma_plan.specs.declared.refusal.Refusal.TheVariants.{Stopped}
 use Rattle.alma_plan.specs.declared.stop.Stop.TheVariants.{Memory}
-use Rattle.alma_pool.specs.Due.{program, opening, program_text}
+use Rattle.alma_pool.specs.Due.{program, open_objects, program_text}
 use Rattle.alma_pool.specs.Pool.{PlayerState, player_at_start, seen_of}
 
--- the bytes of files, and the codes of verified views
+-- the bytes of files
 abbrev pub all_bytes : List (Vec ℕ) → List (List ℕ)
 all_bytes files = map (λ file. file.items) files
 
+-- the codes of verified views
 abbrev pub codes_of : List Verified → List PlainCode
 codes_of verified = map code_of_verified verified
 
 -- memory ran out, or it is the end that these objects bring about
 abbrev pub IsRefused : (objects : List (List ℕ)) → Refusal → Type 0
-IsRefused objects refusal = (refusal ≡ Stopped Memory) ⊎ (opening [] objects ≡ Err (refusal_end program refusal))
+IsRefused objects refusal = (refusal ≡ Stopped Memory) ⊎ (open_objects [] objects ≡ Err (refusal_end program refusal))
 
 -- codes before their first turn, on one input
 abbrev pub players_at_start : List PlainCode → (input : List ℕ) → List PlayerState
 players_at_start codes input = map (λ code. player_at_start code input) codes
 
--- the words for an end, but for the name of a fault, and that name
+-- the words for an end, but for the name of a fault
 abbrev pub end_word : Option End → List ℕ
 end_word None = codes "waiting"
 end_word (Some ended.Succeeded) = codes "succeeded"
 end_word (Some ended.Failed) = codes "failed"
 end_word (Some (ended.Fault fault)) = codes "fault "
 
+-- the name of its fault
 abbrev pub fault_word : Option End → List ℕ
 fault_word None = []
 fault_word (Some ended.Succeeded) = []

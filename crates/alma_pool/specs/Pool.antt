@@ -49,13 +49,15 @@ pub record PoolView : Type 0 where
   pub programs : List PlayerState
   pub whole : Bool
 
--- what stands for a program that is not there
+-- the code of what stands for a program that is not there
 abbrev pub no_code : PlainCode
 no_code = record { version = 0; globals = []; routines = []; ranges = []; texts = []; instrs = []; lines = [] }
 
+-- that program
 abbrev pub no_program : PlayerState
 no_program = player_at_start no_code []
 
+-- the program of a number
 abbrev pub program_at : PoolView → ℕ → PlayerState
 program_at pool k = get_or pool.programs k no_program
 

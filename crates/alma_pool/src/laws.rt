@@ -4,9 +4,9 @@ ghost use Rattle.std.specs.Prelude.{◌≡◌, ◌⊎◌, List, ℕ, ◌∷◌};
 ghost use Rattle.alma_ir.specs.Tree.{Program};
 ghost use Rattle.alma_plan.specs.Causes.{Causes};
 ghost use Rattle.alma_io.specs.Outside.{Outside, IsUndisturbed};
-ghost use Rattle.alma_plan.specs.Plan.{Ends, bad_word, plain, silent};
+ghost use Rattle.alma_plan.specs.Plan.{plain};
 ghost use Rattle.alma_driver_words.specs.BadWords.{IsBadWord};
-ghost use Rattle.alma_pool.specs.Due.{fetch_plan, pool_plan, program};
+ghost use Rattle.alma_pool.specs.Due.{fetch_plan, pool_plan, bad_word_plan, program};
 ghost use Rattle.alma_pool.specs.Laws.{RunAlone, PrintsFront};
 ghost use Rattle.alma_pool.specs.Shown.{PlaysPrograms, ShowsPrograms};
 ghost use Rattle.alma_pool.specs.Words.{AsksToPlay, IsRequest};
@@ -24,7 +24,7 @@ pub fn words_are_a_request_or_have_a_bad_word()
     ensures request { (words files : List (List ℕ)) (file : List ℕ) → AsksToPlay words file files
         → pool_plan words ≡ fetch_plan (file ∷ files) }
     ensures bad_word { (words : List (List ℕ)) (k : ℕ) → IsBadWord IsRequest words k
-        → pool_plan words ≡ Ends (silent (bad_word program k)) }
+        → pool_plan words ≡ bad_word_plan k }
     ensures one_of_both { (words : List (List ℕ)) → IsRequest words
         ⊎ ((k : ℕ) × IsBadWord IsRequest words k) }
 {}

@@ -2,7 +2,7 @@
 ghost use Rattle.std.specs.Prelude.{◌≡◌, [], Ok, IfOk, IfErr};
 ghost use Rattle.std.specs.List.{list_any};
 ghost use Rattle.alma_code.specs.Reads.{code_reads};
-ghost use Rattle.alma_pool.specs.Due.{opening};
+ghost use Rattle.alma_pool.specs.Due.{open_objects};
 ghost use Rattle.alma_pool.specs.Inner.{all_bytes, codes_of, IsRefused};
 
 use alma_plan::{Refusal, Stop, open_code};
@@ -11,7 +11,7 @@ use std::alloc::Global;
 
 /// The verified codes of objects, or why the first of them that is refused is so.
 pub fn open_all(alloc: Global, objects: &[Vec<u8>]) -> Result<Vec<Verified<'_>>, Refusal>
-    ensures codes { IfOk result (λ verified. opening [] (all_bytes objects.now)
+    ensures codes { IfOk result (λ verified. open_objects [] (all_bytes objects.now)
         ≡ Ok (codes_of verified.items)) }
     ensures refused { IfErr result (λ refusal. IsRefused (all_bytes objects.now) refusal) }
 {

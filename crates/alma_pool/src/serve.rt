@@ -3,7 +3,7 @@ ghost use Rattle.std.specs.Prelude.{◌≡◌, ◌≤◌, ◌+◌, length};
 ghost use Rattle.alma_plan.specs.Course.{Follows};
 ghost use Rattle.alma_driver_words.specs.Words.{texts};
 ghost use Rattle.alma_plan.specs.Plan.{plain};
-ghost use Rattle.alma_pool.specs.Due.{program, fetching, fetch_plan, pool_plan, bad_word_behind, turns_limit};
+ghost use Rattle.alma_pool.specs.Due.{program, objects_plan, fetch_plan, pool_plan, bad_word_behind, turns_limit};
 ghost use Rattle.alma_pool.specs.Ends.{pool_end};
 ghost use Rattle.alma_pool.specs.Inner.{all_bytes};
 ghost use Rattle.alma_pool.specs.Words.{greatest_programs};
@@ -31,7 +31,8 @@ fn serve_objects<F: Files, I: Source, O: Sink>(
     out: &mut O,
 ) -> PoolEnd
     requires { length turns.now ≤ turns_limit }
-    ensures { Follows plain program (fetching turns.now (all_bytes got.old.items) (texts names.now))
+    ensures { Follows plain program
+        (objects_plan turns.now (all_bytes got.old.items) (texts names.now))
         (F.side files.old) (F.side files.new) (I.side input.old) (I.side input.new)
         (O.side out.old) (O.side out.new) (pool_end result) }
 {

@@ -2,7 +2,7 @@ use Rattle.std.proofs.Common.{◌∙◌, ◌+◌, drop, refl, sym, ap, inl, inr}
 use Rattle.std.proofs.lemmas.Result.{err_from_is_err_and}
 use Rattle.alma_verify.specs.Verified.{code_of_verified}
 use Rattle.alma_plan.specs.Objects.{object_refusal}
-use Rattle.alma_pool.specs.Due.{program, opening}
+use Rattle.alma_pool.specs.Due.{program, open_objects}
 use Rattle.alma_pool.specs.Inner.{all_bytes, codes_of}
 use Rattle.alma_pool.proofs.Opening.{opening_stops, opening_more, opening_ends, codes_more}
 use Rattle.alma_pool.proofs.open.open_all.Goals as goal
@@ -25,7 +25,7 @@ loop-bytes-preserved c =
     c.loop-bytes.invariant (code_of_verified c.in_ok-code.code)
     (ap (object_refusal program) (sym c.deref.ensures.value) ∙ c.in_ok-code.ensures.sound program)
     (rw c.deref.ensures.value at c.in_ok-code.ensures.code)
-    ∙ ap (λ got. opening got (all_bytes (drop (c.loop-bytes.bytes-index + 1) c.args.objects.now)))
+    ∙ ap (λ got. open_objects got (all_bytes (drop (c.loop-bytes.bytes-index + 1) c.args.objects.now)))
     (sym (ap codes_of more ∙ codes_more c.loop-bytes.verified.items c.in_ok-code.code))
 
 pub returns-clause-codes : goal.returns-clause-codes

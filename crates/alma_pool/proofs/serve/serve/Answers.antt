@@ -3,7 +3,7 @@ use Rattle.alma_plan.proofs.Courses.{course_ends, course_fetched, course_unfetch
 use Rattle.alma_plan.specs.Course.{whole}
 use Rattle.alma_plan.specs.Plan.{silent, bad_word, plain}
 use Rattle.alma_driver_words.specs.Words.{texts}
-use Rattle.alma_pool.specs.Due.{program, fetching, turns_limit}
+use Rattle.alma_pool.specs.Due.{program, objects_plan, turns_limit}
 use Rattle.alma_pool.proofs.serve.serve.Goals as goal
 
 pub serve_objects-requires : goal.serve_objects-requires
@@ -18,12 +18,12 @@ pub returns-in-Ok : goal.returns-in-Ok
 returns-in-Ok g c =
     let got = c.in-Ok.ensures.answer in
     rw c.in-Some.ensures (course_fetched plain program c.in-Some.turns.now turns_limit
-    (λ bytes. fetching bytes [] (texts c.in-Some.objects.now)) c.in-Ok.bytes.items
+    (λ bytes. objects_plan bytes [] (texts c.in-Some.objects.now)) c.in-Ok.bytes.items
     _ _ _ _ _ _ _ _ (c.in-Ok.ensures.same, c.in-Ok.ensures.store_count) got.2 got.0 got.1
     (rw (c.deref.ensures.value, c.new-got.ensures.items) at c.serve_objects.ensures))
 
 pub returns-in-Err : goal.returns-in-Err
 returns-in-Err g c =
     rw (c.in-Some.ensures, c.from.ensures) (course_unfetched plain program c.in-Some.turns.now turns_limit
-    (λ bytes. fetching bytes [] (texts c.in-Some.objects.now))
+    (λ bytes. objects_plan bytes [] (texts c.in-Some.objects.now))
     c.in-Err.fault _ _ _ _ (c.in-Err.ensures.same, c.in-Err.ensures.store_count) c.in-Err.ensures.answer)

@@ -3,7 +3,7 @@ use Rattle.alma_ir.specs.Tree.{more_arms, no_arms}
 use Rattle.alma_ir.specs.View.{stmts_list}
 use Rattle.alma_ir.proofs.Views
 use Rattle.alma_listing.proofs.Parts.{for_ok, arm_is}
-use Rattle.alma_listing.proofs.procedure.when.Goals as goal
+use Rattle.alma_listing.proofs.procedure.one_arm.Goals as goal
 
 pub returns : goal.returns
 returns c =
