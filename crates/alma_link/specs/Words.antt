@@ -1,9 +1,10 @@
 -- What the words of a call ask for.
-use Rattle.std.specs.Prelude.{◌≡◌, ◌≤◌, ◌+◌, ℕ, Bool, true, false, ◌&&◌, List, [], ◌∷◌, codes, length, ltb, cond, Option, None, Some}
+use Rattle.std.specs.Prelude.{◌≡◌, ◌≤◌, ℕ, Bool, true, false, List, [], ◌∷◌, codes, length, cond, Option, None, Some}
 use Rattle.std.specs.Prelude.{Result, Ok, Err}
 use Rattle.std.specs.Str.{bytes_eq}
 use Rattle.alma_driver_words.specs.Words.{AreFileNames, is_file_name}
 use Rattle.alma_join.specs.Joined.{greatest_units}
+use Rattle.alma_plan.specs.Words.{bad_file}
 
 -- the greatest number of files
 abbrev pub greatest_files : ℕ
@@ -22,13 +23,6 @@ pub record Request : Type 0 where
 -- a request by its parts
 abbrev pub request : Task → (files : List (List ℕ)) → Request
 request task files = record { task = task; files = files }
-
--- from 1 to 16 files behind so many words: the first word, from 1, that cannot stand where it is, or one more than there are,
--- where so many are seen
-abbrev pub bad_file : (before seen : ℕ) → List (List ℕ) → Option ℕ
-bad_file before seen [] = cond (ltb before seen) None (Some (seen + 1))
-bad_file before seen (word ∷ words) =
-    cond (is_file_name word && ltb seen (before + greatest_files)) (bad_file before (seen + 1) words) (Some (seen + 1))
 
 -- a request, or its bad word
 abbrev pub unless_bad : Option ℕ → Request → Result Request ℕ

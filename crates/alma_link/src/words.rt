@@ -1,13 +1,11 @@
 // What the words of a call ask for.
-ghost use Rattle.std.specs.Prelude.{◌≡◌, ◌≤◌, ◌<◌, ◌+◌, length, Ok, Err, IfOk, MatchResult};
+ghost use Rattle.std.specs.Prelude.{◌≡◌, ◌≤◌, ◌<◌, length, Ok, Err, IfOk, MatchResult};
 ghost use Rattle.alma_driver_words.specs.Words.{texts};
 ghost use Rattle.alma_link.specs.Ends.{request_in, task_of};
-ghost use Rattle.alma_link.specs.Words.{bad_file as bad_file_of, compile_request as compile_request_of, greatest_files, request_of as request_named, with_files as with_files_of};
+ghost use Rattle.alma_link.specs.Words.{compile_request as compile_request_of, greatest_files, request_of as request_named, with_files as with_files_of};
 
 use alma_driver_words::{is_file_name, split_word};
-
-/// The greatest number of files.
-const GREATEST_FILES: usize = 16;
+use alma_plan::bad_file;
 
 /// What is done with the joined program.
 #[derive(Clone, Copy)]
@@ -24,25 +22,6 @@ pub struct Request<'w> {
     pub task: Task<'w>,
     /// The names of the files that hold the modules.
     pub files: &'w [String],
-}
-
-// The first word, from 1, that is no file or one too many, or one more than there are where none is
-// a file, behind so many words, of which those before the files are `before`.
-fn bad_file(before: usize, seen: usize, words: &[String]) -> Option<usize>
-    requires few { before ≤ 2 }
-    requires within { seen ≤ before + greatest_files }
-    ensures { result ≡ bad_file_of before seen (texts words.now) }
-{
-    match words {
-        [] => { if before < seen { None } else { Some(seen + 1) } }
-        [word, rest @ ..] => {
-            if is_file_name(word.as_str()) && seen < before + GREATEST_FILES {
-                bad_file(before, seen + 1, rest)
-            } else {
-                Some(seen + 1)
-            }
-        }
-    }
 }
 
 // A request whose files stand behind so many words.

@@ -3,6 +3,7 @@ pub mod Course
 pub mod Causes
 pub mod Undisturbed
 pub mod Refusals
+pub mod Words
 pub mod Objects
 pub mod Programs
 pub mod Meant

@@ -12,6 +12,7 @@ mod source;
 mod stop;
 mod store;
 mod telling;
+mod words;
 mod writing;
 
 pub use end::ProgramEnd;
@@ -22,4 +23,5 @@ pub use source::{FileStop, tell_file};
 pub use stop::Stop;
 pub use store::store_program;
 pub use telling::tell_program;
+pub use words::bad_file;
 pub use writing::report;

@@ -7,10 +7,11 @@ use Rattle.alma_code.specs.Reads.{code_reads}
 use Rattle.alma_verify.specs.Bytes.{object_code}
 use Rattle.alma_plan.specs.Objects.{object_refusal}
 use Rattle.alma_plan.specs.Plan.{Ending, silent, prints, plain}
+use Rattle.alma_plan.specs.Words.{bad_file}
 use Rattle.alma_plan.proofs.OwnEnds.{HasOwnEnds}
 use Rattle.alma_plan.proofs.PlainEnds.{own_status, refusal_status}
 use Rattle.alma_pool.specs.Due.{program, pool_text, or_refused, open_objects, played_on, play_plan, judged_by, objects_plan, fetch_plan}
-use Rattle.alma_pool.specs.Due.{words_plan, pool_plan, bad_word_behind}
+use Rattle.alma_pool.specs.Due.{words_plan, pool_plan}
 
 -- ---- objects
 
@@ -56,4 +57,4 @@ own_planned None words = own_asked words
 own_planned (Some word) words = own_status _ 2 refl (inl (omega arith))
 
 pub own_plan : (words : List (List ℕ)) → HasOwnEnds plain (pool_plan words)
-own_plan words = own_planned (bad_word_behind 0 words) words
+own_plan words = own_planned (bad_file 1 0 words) words

@@ -8,7 +8,8 @@ use Rattle.alma_plan.specs.Plan.{Ends, bad_word, silent}
 use Rattle.alma_driver_words.specs.BadWords.{Begins, IsBadWord}
 use Rattle.alma_driver_words.specs.Words.{AreFileNames, is_file_name}
 use Rattle.alma_driver_words.proofs.BadWords.{Found, bad_behind, bad_end, bad_is_told, one_of_both}
-use Rattle.alma_pool.specs.Due.{program, unless, bad_word_behind, fetch_plan, words_plan, pool_plan}
+use Rattle.alma_plan.specs.Words.{bad_file}
+use Rattle.alma_pool.specs.Due.{program, fetch_plan, words_plan, pool_plan}
 use Rattle.alma_pool.specs.Words.{AsksToPlay, IsRequest, greatest_programs}
 
 -- ---- names of files
@@ -69,7 +70,7 @@ begins_good front word h =
 
 -- the number of the bad word that it finds
 abbrev IsTold : (seen : ℕ) → (words : List (List ℕ)) → (k : ℕ) → Type 0
-IsTold seen words k = bad_word_behind seen words ≡ Some k
+IsTold seen words k = bad_file 1 seen words ≡ Some k
 
 -- the words have an end there
 walk_end : (front : List (List ℕ)) → AreFileNames front → length front ≤ 1 + greatest_programs
@@ -78,8 +79,8 @@ walk_end front names few = by (cases_lt (length front) 2)
   where
     by : (length front < 2) ⊎ (2 ≤ length front) → Found IsRequest front (IsTold (length front) [])
     by (inl less) =
-        let told : bad_word_behind (length front) [] ≡ Some (length front + 1) =
-        ap (λ (b : Bool). cond b (Some (length front + 1)) None) (lt-ltb (length front) 2 less) in
+        let told : bad_file 1 (length front) [] ≡ Some (length front + 1) =
+        ap (λ (b : Bool). cond b None (Some (length front + 1))) (le-ltb 1 (length front) (omega (arith, less))) in
         inr (
           length front + 1,
           bad_end IsRequest front (names_begin front names few) (λ r. omega (arith, less, (request_count front r).0)),
@@ -111,7 +112,7 @@ walk all front (word ∷ rest) seen e count names few =
   where
     by : (good : Bool) → is_file_name word && ltb seen (1 + greatest_programs) ≡ good
         → (is_file_name word ≡ true → seen < 1 + greatest_programs → Found IsRequest all (IsTold (seen + 1) rest))
-        → Found IsRequest all (λ k. unless good (seen + 1) (bad_word_behind (seen + 1) rest) ≡ Some k)
+        → Found IsRequest all (λ k. cond good (bad_file 1 (seen + 1) rest) (Some (seen + 1)) ≡ Some k)
     by true is next =
         let parts = and_parts (is_file_name word) (ltb seen (1 + greatest_programs)) is in
         next parts.0 (ltb-true seen (1 + greatest_programs) parts.1)
@@ -132,12 +133,12 @@ found words = walk words [] words 0 refl refl tt (omega arith)
 
 -- names, as many as a request has
 no_bad_word : (seen : ℕ) (words : List (List ℕ)) → AreFileNames words → 2 ≤ seen + length words
-    → seen + length words ≤ 1 + greatest_programs → bad_word_behind seen words ≡ None
-no_bad_word seen [] names some few = ap (λ (b : Bool). cond b (Some (seen + 1)) None) (le-ltb seen 2 (omega (arith, some)))
+    → seen + length words ≤ 1 + greatest_programs → bad_file 1 seen words ≡ None
+no_bad_word seen [] names some few = ap (λ (b : Bool). cond b None (Some (seen + 1))) (lt-ltb 1 seen (omega (arith, some)))
 no_bad_word seen (word ∷ words) names some few =
-    let rest = bad_word_behind (seen + 1) words in
-    ap (λ (b : Bool). unless (b && ltb seen (1 + greatest_programs)) (seen + 1) rest) names.0
-    ∙ ap (λ (b : Bool). unless b (seen + 1) rest) (lt-ltb seen (1 + greatest_programs) (omega (arith, few)))
+    let rest = bad_file 1 (seen + 1) words in
+    ap (λ (b : Bool). cond (b && ltb seen (1 + greatest_programs)) rest (Some (seen + 1))) names.0
+    ∙ ap (λ (b : Bool). cond b rest (Some (seen + 1))) (lt-ltb seen (1 + greatest_programs) (omega (arith, few)))
     ∙ no_bad_word (seen + 1) words names.1 (omega (arith, some)) (omega (arith, few))
 
 pub request_planned : (words objects : List (List ℕ)) (turns : List ℕ) → AsksToPlay words turns objects

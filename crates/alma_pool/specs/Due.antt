@@ -11,10 +11,9 @@ use Rattle.alma_code.specs.Reads.{code_reads}
 use Rattle.alma_verify.specs.Bytes.{object_code}
 use Rattle.alma_plan.specs.Plan.{Due, Ending, Plan, Fetches, Reads, Ends, silent, prints, tells, bad_word}
 use Rattle.alma_plan.specs.Objects.{object_refusal}
+use Rattle.alma_plan.specs.Words.{bad_file}
 use Rattle.alma_driver_words.specs.Exit as exit
-use Rattle.alma_driver_words.specs.Words.{is_file_name}
 use Rattle.alma_pool.specs.Pool.{Lone, lone, turns_of}
-use Rattle.alma_pool.specs.Words.{greatest_programs}
 
 -- the name of the program
 abbrev pub program : List ℕ
@@ -24,23 +23,12 @@ program = codes "alma_pool"
 abbrev pub turns_limit : ℕ
 turns_limit = 16777216
 
--- ---- the words, and the bytes of a file of turns
+-- ---- the bytes of a file of turns
 
 -- the number of this one where it is not good, else what comes of the rest
 abbrev pub unless : (good : Bool) → (number : ℕ) → (rest : Option ℕ) → Option ℕ
 unless true number rest = rest
 unless false number rest = Some number
-
--- one more than so many, if these are no more than a file of turns
-abbrev pub too_few : (seen : ℕ) → Option ℕ
-too_few seen = cond (ltb seen 2) (Some (seen + 1)) None
-
--- a file of turns and from 1 to 16 objects: the first word, from 1, that cannot stand where it is, or one more than there are, behind so
--- many
-abbrev pub bad_word_behind : (seen : ℕ) → List (List ℕ) → Option ℕ
-bad_word_behind seen [] = too_few seen
-bad_word_behind seen (word ∷ words) =
-    unless (is_file_name word && ltb seen (1 + greatest_programs)) (seen + 1) (bad_word_behind (seen + 1) words)
 
 -- the byte may stand in a file of turns of so many programs: a line feed, or the letter of a program; that of the first is `a`
 abbrev pub is_turn : (programs byte : ℕ) → Bool
@@ -140,6 +128,6 @@ abbrev pub words_plan : (bad : Option ℕ) → (words : List (List ℕ)) → Pla
 words_plan (Some word) words = bad_word_plan word
 words_plan None words = fetch_plan words
 
--- a call with these words
+-- a call with these words: a file of turns, and behind it from 1 to 16 objects
 abbrev pub pool_plan : (words : List (List ℕ)) → Plan ⊥ Due
-pool_plan words = words_plan (bad_word_behind 0 words) words
+pool_plan words = words_plan (bad_file 1 0 words) words

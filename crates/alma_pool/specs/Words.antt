@@ -1,10 +1,11 @@
 -- The words of a call, as a reader knows them.
 use Rattle.std.specs.Prelude.{◌≡◌, ◌≤◌, List, ℕ, ◌∷◌, length}
 use Rattle.alma_driver_words.specs.Words.{AreFileNames}
+use Rattle.alma_plan.specs.Words.{greatest_files}
 
 -- the greatest number of programs
 abbrev pub greatest_programs : ℕ
-greatest_programs = 16
+greatest_programs = greatest_files
 
 -- the words name a file of turns, and from 1 to 16 files of objects
 pub record AsksToPlay (words : List (List ℕ)) (file : List ℕ) (files : List (List ℕ)) : Type 0 where

@@ -1,24 +1,20 @@
 // From the words to an end.
-ghost use Rattle.std.specs.Prelude.{◌≡◌, ◌≤◌, ◌+◌, length};
+ghost use Rattle.std.specs.Prelude.{◌≤◌, length};
 ghost use Rattle.alma_plan.specs.Course.{Follows};
 ghost use Rattle.alma_driver_words.specs.Words.{texts};
 ghost use Rattle.alma_plan.specs.Plan.{plain};
-ghost use Rattle.alma_pool.specs.Due.{program, objects_plan, fetch_plan, pool_plan, bad_word_behind, turns_limit};
+ghost use Rattle.alma_pool.specs.Due.{program, objects_plan, fetch_plan, pool_plan, turns_limit};
 ghost use Rattle.alma_pool.specs.Ends.{pool_end};
 ghost use Rattle.alma_pool.specs.Inner.{all_bytes};
-ghost use Rattle.alma_pool.specs.Words.{greatest_programs};
 
 use crate::end::PoolEnd;
 use crate::play::judge;
 use crate::turns::TURNS_LIMIT;
 use alma_base::OBJECT_LIMIT;
-use alma_driver_words::{is_file_name, split_word};
+use alma_driver_words::split_word;
 use alma_io::{Files, Sink, Source};
-use alma_plan::{Refusal, Stop};
+use alma_plan::{Refusal, Stop, bad_file};
 use std::alloc::Global;
-
-/// The greatest number of programs.
-const GREATEST_PROGRAMS: usize = 16;
 
 // Fetches the objects of these names, behind those that were, and then makes the turns.
 fn serve_objects<F: Files, I: Source, O: Sink>(
@@ -47,24 +43,6 @@ fn serve_objects<F: Files, I: Source, O: Sink>(
             serve_objects(alloc, turns, got, rest, files, input, out)
         }
         Err(fault) => PoolEnd::Refused(Refusal::Stopped(Stop::from(fault))),
-    }
-}
-
-// The first word, from 1, that cannot stand where it is, or one more than there are, behind so
-// many.
-fn bad_word(seen: usize, words: &[String]) -> Option<usize>
-    requires { seen ≤ 1 + greatest_programs }
-    ensures { result ≡ bad_word_behind seen (texts words.now) }
-{
-    match words {
-        [] => { if seen < 2 { Some(seen + 1) } else { None } }
-        [word, rest @ ..] => {
-            if is_file_name(word.as_str()) && seen < 1 + GREATEST_PROGRAMS {
-                bad_word(seen + 1, rest)
-            } else {
-                Some(seen + 1)
-            }
-        }
     }
 }
 
@@ -105,7 +83,7 @@ pub fn perform<F: Files, I: Source, O: Sink>(
         (F.side files.new) (I.side input.old) (I.side input.new) (O.side out.old)
         (O.side out.new) (pool_end result) }
 {
-    match bad_word(0, words) {
+    match bad_file(1, 0, words) {
         Some(word) => PoolEnd::Refused(Refusal::BadWord(word)),
         None => serve(alloc, words, files, input, out),
     }
