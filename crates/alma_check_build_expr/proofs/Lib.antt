@@ -1,4 +1,3 @@
 pub mod Steps
 mod Numbers
 mod Chains
-mod Equations

@@ -4,7 +4,6 @@ ghost use Rattle.alma_ir.specs.View.{expr_of};
 ghost use Rattle.alma_ir.specs.Tree as ir;
 ghost use Rattle.alma_rules.specs.Judgement.{both_of};
 ghost use Rattle.alma_rules.specs.Parts as parts;
-ghost use Rattle.alma_rules.specs.Parts.{Typing};
 ghost use Rattle.alma_check_rules.specs.Views.{scene_of, typing_in, typing_of, meaning_view, somewhere};
 
 use crate::expression::{as_value, boolean};
@@ -43,37 +42,7 @@ fn compare(alloc: Global, cmp: Cmp, left: Meaning, right: Meaning) -> Result<Mea
     Ok(Meaning::Plain(Expr::Compare(cmp, first, second)))
 }
 
-// An equation of a value, which is no designator, with a right side.
-fn equate_value(
-    alloc: Global,
-    env: &Env,
-    value: Expr,
-    right: TypedExpr,
-) -> Result<Meaning, AllocError>
-    ensures { (left : Typing) → IfOk result (λ m. meaning_view m ≡ parts.equation_of
-        (scene_of env.now somewhere) left (typing_of right) (parts.plain (expr_of value))
-        (meaning_view right.meaning)) }
-{
-    let range = env.range(right.shape);
-    match right.meaning {
-        Meaning::Place(place) => Ok(Meaning::Test(Test::Bind(place, value, range, false))),
-        Meaning::Plain(other) => compare(
-            alloc,
-            Cmp::Equal,
-            Meaning::Plain(value),
-            Meaning::Plain(other),
-        ),
-        Meaning::Test(test) => compare(
-            alloc,
-            Cmp::Equal,
-            Meaning::Plain(value),
-            Meaning::Test(test),
-        ),
-    }
-}
-
 // An equation with exactly one designator binds it; one of two unifies them, or their cells.
-#[tactic(auto, using(crate::proofs::Equations::truth_is_a_value))]
 fn equation(
     alloc: Global,
     env: &Env,
@@ -94,22 +63,55 @@ fn equation(
                 }
                 Ok(Meaning::Test(Test::Unify(place, env.range(first), other, env.range(second))))
             }
-            Meaning::Plain(value) => Ok(Meaning::Test(Test::Bind(
+            Meaning::Plain(expr) => Ok(Meaning::Test(Test::Bind(
                 place,
-                value,
+                expr,
                 env.range(first),
                 true,
             ))),
             Meaning::Test(test) => {
-                let value = as_value(alloc, Meaning::Test(test))?;
-                Ok(Meaning::Test(Test::Bind(place, value, env.range(first), true)))
+                let truth = Expr::Truth(Box::new(alloc, test)?);
+                Ok(Meaning::Test(Test::Bind(place, truth, env.range(first), true)))
             }
         },
-        Meaning::Plain(value) => equate_value(alloc, env, value, right),
-        Meaning::Test(test) => {
-            let value = as_value(alloc, Meaning::Test(test))?;
-            equate_value(alloc, env, value, right)
-        }
+        Meaning::Plain(value) => match right.meaning {
+            Meaning::Place(place) => Ok(Meaning::Test(Test::Bind(
+                place,
+                value,
+                env.range(second),
+                false,
+            ))),
+            Meaning::Plain(expr) => compare(
+                alloc,
+                Cmp::Equal,
+                Meaning::Plain(value),
+                Meaning::Plain(expr),
+            ),
+            Meaning::Test(test) => compare(
+                alloc,
+                Cmp::Equal,
+                Meaning::Plain(value),
+                Meaning::Test(test),
+            ),
+        },
+        Meaning::Test(value) => match right.meaning {
+            Meaning::Place(place) => {
+                let truth = Expr::Truth(Box::new(alloc, value)?);
+                Ok(Meaning::Test(Test::Bind(place, truth, env.range(second), false)))
+            }
+            Meaning::Plain(expr) => compare(
+                alloc,
+                Cmp::Equal,
+                Meaning::Test(value),
+                Meaning::Plain(expr),
+            ),
+            Meaning::Test(test) => compare(
+                alloc,
+                Cmp::Equal,
+                Meaning::Test(value),
+                Meaning::Test(test),
+            ),
+        },
     }
 }
 
