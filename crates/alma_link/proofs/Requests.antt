@@ -8,8 +8,8 @@ use Rattle.std.specs.Str.{bytes_eq}
 use Rattle.alma_driver_words.specs.BadWords.{Begins, IsBadWord}
 use Rattle.alma_driver_words.specs.Words.{AreFileNames, is_file_name}
 use Rattle.alma_driver_words.proofs.BadWords.{asks_begins, bad_behind, bad_end, one_bad_word}
-use Rattle.alma_plan.specs.Words.{bad_file}
-use Rattle.alma_link.specs.Words.{Task, Run, Compile, Request, request, greatest_files, unless_bad, with_files, compile_request}
+use Rattle.alma_plan.specs.Words.{bad_file, greatest_files}
+use Rattle.alma_link.specs.Words.{Task, Run, Compile, Request, request, unless_bad, with_files, compile_request}
 use Rattle.alma_link.specs.Words.{request_behind, request_of, AreFiles, AsksForTask, AsksFor, IsRequest}
 
 -- what reading words answers: the request that they are, or their bad word

@@ -6,8 +6,7 @@ use Rattle.std.specs.Prelude.{◌⊎◌, Bool, true, false, ◌&&◌, None, Some
 use Rattle.std.specs.declared.alloc.Global.{Global}
 use Rattle.std.specs.String.{string_bytes}
 use Rattle.alma_driver_words.specs.Words.{texts, is_file_name}
-use Rattle.alma_plan.specs.Words.{bad_file}
-use Rattle.alma_link.specs.Words.{greatest_files}
+use Rattle.alma_plan.specs.Words.{bad_file, greatest_files}
 
 -- the number of files, as words behind so many
 abbrev Within : (before seen : ℕ) → List (List ℕ) → Type 0

@@ -3,12 +3,7 @@ use Rattle.std.specs.Prelude.{◌≡◌, ◌≤◌, ℕ, Bool, true, false, List
 use Rattle.std.specs.Prelude.{Result, Ok, Err}
 use Rattle.std.specs.Str.{bytes_eq}
 use Rattle.alma_driver_words.specs.Words.{AreFileNames, is_file_name}
-use Rattle.alma_join.specs.Joined.{greatest_units}
-use Rattle.alma_plan.specs.Words.{bad_file}
-
--- the greatest number of files
-abbrev pub greatest_files : ℕ
-greatest_files = greatest_units
+use Rattle.alma_plan.specs.Words.{bad_file, greatest_files}
 
 -- what is done with the joined program: it is run, or its object is stored under a name
 pub data Task : Type 0 where

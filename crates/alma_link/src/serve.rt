@@ -10,7 +10,7 @@ ghost use Rattle.alma_plan.specs.Ends.{program_end};
 ghost use Rattle.alma_plan.specs.Programs.{sense};
 ghost use Rattle.alma_link.specs.Ends.{link_end, task_of};
 ghost use Rattle.alma_link.specs.Link.{failure, join_plan, link_plan, task_plan, program, files_plan};
-ghost use Rattle.alma_link.specs.Words.{greatest_files};
+ghost use Rattle.alma_plan.specs.Words.{greatest_files};
 
 use crate::end::LinkEnd;
 use crate::words::{Task, request_of};

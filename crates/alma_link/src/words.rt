@@ -2,7 +2,8 @@
 ghost use Rattle.std.specs.Prelude.{◌≡◌, ◌≤◌, ◌<◌, length, Ok, Err, IfOk, MatchResult};
 ghost use Rattle.alma_driver_words.specs.Words.{texts};
 ghost use Rattle.alma_link.specs.Ends.{request_in, task_of};
-ghost use Rattle.alma_link.specs.Words.{compile_request as compile_request_of, greatest_files, request_of as request_named, with_files as with_files_of};
+ghost use Rattle.alma_link.specs.Words.{compile_request as compile_request_of, request_of as request_named, with_files as with_files_of};
+ghost use Rattle.alma_plan.specs.Words.{greatest_files};
 
 use alma_driver_words::{is_file_name, split_word};
 use alma_plan::bad_file;
