@@ -1,6 +1,6 @@
 // Relations of two values, built of their sides.
 ghost use Rattle.std.specs.Prelude.{◌≡◌, Some, option_map, IfOk};
-ghost use Rattle.alma_ir.specs.View.{expr_of};
+ghost use Rattle.alma_ir.specs.View.{desig_of, expr_of};
 ghost use Rattle.alma_ir.specs.Tree as ir;
 ghost use Rattle.alma_rules.specs.Judgement.{both_of};
 ghost use Rattle.alma_rules.specs.Parts as parts;
@@ -8,7 +8,7 @@ ghost use Rattle.alma_check_rules.specs.Views.{scene_of, typing_in, typing_of, m
 
 use crate::expression::{as_value, boolean};
 use alma_check_rules::{Env, Meaning, TypedExpr};
-use alma_ir::{Cmp, Expr, Test};
+use alma_ir::{Cmp, Desig, Expr, Test};
 use alma_tree::Relation;
 use std::alloc::{AllocError, Global};
 
@@ -42,6 +42,67 @@ fn compare(alloc: Global, cmp: Cmp, left: Meaning, right: Meaning) -> Result<Mea
     Ok(Meaning::Plain(Expr::Compare(cmp, first, second)))
 }
 
+// An equation whose left side is a place: it is unified with another place, or their cells are, and
+// else bound to the value.
+fn equate_place(
+    alloc: Global,
+    env: &Env,
+    place: Desig,
+    shape: u32,
+    right: TypedExpr,
+) -> Result<Meaning, AllocError>
+    ensures { IfOk result (λ m. meaning_view m ≡ parts.place_equation (scene_of env.now somewhere)
+        shape right.shape (desig_of place) (meaning_view right.meaning)) }
+{
+    let second = right.shape;
+    match right.meaning {
+        Meaning::Place(other) => {
+            if env.is_structured(shape) {
+                return Ok(Meaning::Test(Test::SameCells(place, other)));
+            }
+            Ok(Meaning::Test(Test::Unify(place, env.range(shape), other, env.range(second))))
+        }
+        Meaning::Plain(expr) => Ok(Meaning::Test(Test::Bind(place, expr, env.range(shape), true))),
+        Meaning::Test(test) => {
+            let truth = Expr::Truth(Box::new(alloc, test)?);
+            Ok(Meaning::Test(Test::Bind(place, truth, env.range(shape), true)))
+        }
+    }
+}
+
+// An equation whose left side is a value: it is bound to a place, and else compared.
+fn equate_value(
+    alloc: Global,
+    env: &Env,
+    value: Expr,
+    right: TypedExpr,
+) -> Result<Meaning, AllocError>
+    ensures { IfOk result (λ m. meaning_view m ≡ parts.value_equation (scene_of env.now somewhere)
+        right.shape (expr_of value) (meaning_view right.meaning)) }
+{
+    let shape = right.shape;
+    match right.meaning {
+        Meaning::Place(place) => Ok(Meaning::Test(Test::Bind(
+            place,
+            value,
+            env.range(shape),
+            false,
+        ))),
+        Meaning::Plain(expr) => compare(
+            alloc,
+            Cmp::Equal,
+            Meaning::Plain(value),
+            Meaning::Plain(expr),
+        ),
+        Meaning::Test(test) => compare(
+            alloc,
+            Cmp::Equal,
+            Meaning::Plain(value),
+            Meaning::Test(test),
+        ),
+    }
+}
+
 // An equation with exactly one designator binds it; one of two unifies them, or their cells.
 fn equation(
     alloc: Global,
@@ -50,68 +111,16 @@ fn equation(
     right: TypedExpr,
 ) -> Result<Meaning, AllocError>
     ensures { IfOk result (λ m. meaning_view m ≡ parts.equation_of (scene_of env.now somewhere)
-        (typing_of left) (typing_of right) (meaning_view left.meaning)
-        (meaning_view right.meaning)) }
+        left.shape right.shape (meaning_view left.meaning) (meaning_view right.meaning)) }
 {
-    let first = left.shape;
-    let second = right.shape;
+    let shape = left.shape;
     match left.meaning {
-        Meaning::Place(place) => match right.meaning {
-            Meaning::Place(other) => {
-                if env.is_structured(first) {
-                    return Ok(Meaning::Test(Test::SameCells(place, other)));
-                }
-                Ok(Meaning::Test(Test::Unify(place, env.range(first), other, env.range(second))))
-            }
-            Meaning::Plain(expr) => Ok(Meaning::Test(Test::Bind(
-                place,
-                expr,
-                env.range(first),
-                true,
-            ))),
-            Meaning::Test(test) => {
-                let truth = Expr::Truth(Box::new(alloc, test)?);
-                Ok(Meaning::Test(Test::Bind(place, truth, env.range(first), true)))
-            }
-        },
-        Meaning::Plain(value) => match right.meaning {
-            Meaning::Place(place) => Ok(Meaning::Test(Test::Bind(
-                place,
-                value,
-                env.range(second),
-                false,
-            ))),
-            Meaning::Plain(expr) => compare(
-                alloc,
-                Cmp::Equal,
-                Meaning::Plain(value),
-                Meaning::Plain(expr),
-            ),
-            Meaning::Test(test) => compare(
-                alloc,
-                Cmp::Equal,
-                Meaning::Plain(value),
-                Meaning::Test(test),
-            ),
-        },
-        Meaning::Test(value) => match right.meaning {
-            Meaning::Place(place) => {
-                let truth = Expr::Truth(Box::new(alloc, value)?);
-                Ok(Meaning::Test(Test::Bind(place, truth, env.range(second), false)))
-            }
-            Meaning::Plain(expr) => compare(
-                alloc,
-                Cmp::Equal,
-                Meaning::Test(value),
-                Meaning::Plain(expr),
-            ),
-            Meaning::Test(test) => compare(
-                alloc,
-                Cmp::Equal,
-                Meaning::Test(value),
-                Meaning::Test(test),
-            ),
-        },
+        Meaning::Place(place) => equate_place(alloc, env, place, shape, right),
+        Meaning::Plain(expr) => equate_value(alloc, env, expr, right),
+        Meaning::Test(test) => {
+            let truth = Expr::Truth(Box::new(alloc, test)?);
+            equate_value(alloc, env, truth, right)
+        }
     }
 }
 

@@ -369,7 +369,7 @@ related_tally s n m relations.Equal p h g = record { is = by p.0.meaning p.1.mea
     two true d e r1 r2 h g = test_more _ (tally_join h g)
     two false d e r1 r2 h g = test_more _ (tally_join h g)
 
-    by : (a b : Meaning) → MeaningTally n a → MeaningTally m b → MeaningTally (n + m) (equation_of s p.0 p.1 a b)
+    by : (a b : Meaning) → MeaningTally n a → MeaningTally m b → MeaningTally (n + m) (equation_of s p.0.shape p.1.shape a b)
     by (a_place d) (a_place e) h g = two (is_structured s p.0.shape) d e (range s p.0.shape) (range s p.1.shape) h g
     by (a_place d) (plain e) h g = test_more _ (tally_join h g)
     by (a_place d) (a_test e) h g = test_more _ (tally_join h (expr_more _ g))

@@ -170,7 +170,7 @@ kind_exact s n x d e = absurd (cc)
 related_other : (s : Scene) (r : Relation) (p : Typing × Typing) → NoPlace (relation_of s r p)
 related_other s relations.Equal p = by p.0.meaning p.1.meaning
   where
-    by : (a b : Meaning) → NoPlace (equation_of s p.0 p.1 a b)
+    by : (a b : Meaning) → NoPlace (equation_of s p.0.shape p.1.shape a b)
     by (a_place d) (a_place x) = tt
     by (a_place d) (plain x) = tt
     by (a_place d) (a_test x) = tt

@@ -76,7 +76,7 @@ compare_fits e how a b p q g h = (
 
 equation_fits : {k : Place} {s : Scene} (e : SceneFits k s) (lo mid hi : ℕ) (a b : Typing) → base s a.shape ≡ base s b.shape
     → (l r : Meaning)
-    → MeaningFits k s lo mid a.shape l → MeaningFits k s mid hi b.shape r → MeaningFits k s lo hi 2 (equation_of s a b l r)
+    → MeaningFits k s lo mid a.shape l → MeaningFits k s mid hi b.shape r → MeaningFits k s lo hi 2 (equation_of s a.shape b.shape l r)
 unfolding expr_phrases
 equation_fits {k} {s} e lo mid hi a b same (a_place d) (a_place x) g h = go (is_structured s a.shape) refl
   where

@@ -283,7 +283,7 @@ related_prints s n m relations.Equal p h g = record { is = by p.0.meaning p.1.me
     two true d e r1 r2 h g = test_more _ (prints_join h g)
     two false d e r1 r2 h g = test_more _ (prints_join h g)
 
-    by : (a b : Meaning) → MeaningPrints n a → MeaningPrints m b → MeaningPrints (n + m) (equation_of s p.0 p.1 a b)
+    by : (a b : Meaning) → MeaningPrints n a → MeaningPrints m b → MeaningPrints (n + m) (equation_of s p.0.shape p.1.shape a b)
     by (a_place d) (a_place e) h g = two (is_structured s p.0.shape) d e (range s p.0.shape) (range s p.1.shape) h g
     by (a_place d) (plain e) h g = test_more _ (prints_join h g)
     by (a_place d) (a_test e) h g = test_more _ (prints_join h (expr_more _ g))

@@ -201,16 +201,24 @@ compare_of relations.LessEq = compares.LessEq
 compare_of relations.Greater = compares.Greater
 compare_of relations.GreaterEq = compares.GreaterEq
 
--- an equation with exactly one designator binds it; one of two unifies them, or their cells
-abbrev pub equation_of : Scene → Typing → Typing → Meaning → Meaning → Meaning
-equation_of s a b (a_place d) (a_place e) =
-    a_test (if is_structured s a.shape then ir.SameCells d e else ir.Unify d (range s a.shape) e (range s b.shape))
-equation_of s a b (a_place d) m = a_test (ir.Bind d (value_of m) (range s a.shape) true)
-equation_of s a b m (a_place e) = a_test (ir.Bind e (value_of m) (range s b.shape) false)
-equation_of s a b l r = plain (ir.Compare compares.Equal (value_of l) (value_of r))
+-- a place on the left is unified with another place, or their cells are, and else bound to the value
+abbrev pub place_equation : Scene → (first second : ℕ) → ir.Desig → Meaning → Meaning
+place_equation s first second d (a_place e) =
+    a_test (if is_structured s first then ir.SameCells d e else ir.Unify d (range s first) e (range s second))
+place_equation s first second d m = a_test (ir.Bind d (value_of m) (range s first) true)
+
+-- a value on the left is bound to a place, and else compared
+abbrev pub value_equation : Scene → (second : ℕ) → ir.Expr → Meaning → Meaning
+value_equation s second e (a_place d) = a_test (ir.Bind d e (range s second) false)
+value_equation s second e m = plain (ir.Compare compares.Equal e (value_of m))
+
+-- an equation of sides with these shapes: with exactly one designator it binds it
+abbrev pub equation_of : Scene → (first second : ℕ) → Meaning → Meaning → Meaning
+equation_of s first second (a_place d) m = place_equation s first second d m
+equation_of s first second l m = value_equation s second (value_of l) m
 
 abbrev pub relation_of : Scene → Relation → Typing × Typing → Meaning
-relation_of s relations.Equal p = equation_of s p.0 p.1 p.0.meaning p.1.meaning
+relation_of s relations.Equal p = equation_of s p.0.shape p.1.shape p.0.meaning p.1.meaning
 relation_of s relation p = plain (ir.Compare (compare_of relation) (value_of p.0.meaning) (value_of p.1.meaning))
 
 abbrev pub relation_typing : Scene → Relation → Typing × Typing → Typing

@@ -25,10 +25,8 @@ pub fn verify<'b>(view: ObjectView<'b>) -> Result<Verified<'b>, VerifyFault>
     ensures complete { IsSound (code_of_view view.entry) → IsOk result }
 {
     view.keeps_object();
-    match code_fault(&view) {
-        Some(fault) => Err(fault),
-        None => Ok(Verified { view }),
-    }
+    code_fault(&view)?;
+    Ok(Verified { view })
 }
 
 impl<'b> Verified<'b> {

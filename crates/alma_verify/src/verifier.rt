@@ -1,11 +1,12 @@
 // The first broken rule.
-ghost use Rattle.std.specs.Prelude.{◌≡◌, ◌≤◌, ◌<◌, ◌-◌, length, get_or};
+ghost use Rattle.std.specs.Prelude.{◌≡◌, ◌≤◌, ◌<◌, ◌-◌, ◌×◌, MatchResult, true, false, length, get_or};
 ghost use Rattle.alma_base.specs.Limits.{record_limit};
 ghost use Rattle.alma_code.specs.Plain.{head_at, start_at, end_at};
 ghost use Rattle.alma_code.specs.Records.{KeepsCounts};
 ghost use Rattle.alma_code.specs.declared.instr.Instr.TheVariants as I;
 ghost use Rattle.alma_verify.specs.Seen.{AreFit};
 ghost use Rattle.alma_code.specs.Rules.{IsTable, instr_fault as instr_fault_spec, instrs_fault as instrs_fault_spec, routine_fault as routine_fault_spec, code_fault as code_fault_spec};
+ghost use Rattle.alma_verify.specs.Faults.{TellsFault};
 ghost use Rattle.alma_verify.specs.Routines.{HasRoutine};
 
 use crate::heads::{rule_1, rule_2, rule_3};
@@ -15,6 +16,18 @@ use crate::seen::SeenCalls;
 use crate::slots::start_of;
 use alma_code::VerifyFault;
 
+// What a rule that holds or not says of a routine or an address.
+fn keeps(holds: bool, rule: u8, at: u32) -> Result<(), VerifyFault>
+    ensures { MatchResult result (λ _. holds ≡ true)
+        (λ fault. (holds ≡ false) × (fault ≡ (record { rule = rule; at = at }))) }
+{
+    if holds {
+        Ok(())
+    } else {
+        Err(VerifyFault { rule, at })
+    }
+}
+
 // The least broken rule of the instruction at an address of a routine.
 #[tactic(auto, unfolding(alma_code::specs::Rules::instr_fault))]
 fn instr_fault<R: CodeReader>(
@@ -22,43 +35,24 @@ fn instr_fault<R: CodeReader>(
     routine: u32,
     at: u32,
     seen: &mut SeenCalls,
-) -> Option<VerifyFault>
+) -> Result<(), VerifyFault>
     requires routine { HasRoutine (R.code reader.now) routine }
     requires at { at < length (R.code reader.now).instrs }
     requires seen { AreFit (R.code reader.now) seen.old }
     ensures seen { AreFit (R.code reader.now) seen.new }
-    ensures fault { result ≡ instr_fault_spec (R.code reader.now) routine at
-        (get_or (R.code reader.now).instrs at I.Fail) }
+    ensures fault { TellsFault (instr_fault_spec (R.code reader.now) routine at
+        (get_or (R.code reader.now).instrs at I.Fail)) result }
 {
     let instr = reader.instr(at);
-    if !rule_4(reader, routine, instr) {
-        return Some(VerifyFault { rule: 4, at });
-    }
-    if !rule_5(reader, routine, instr) {
-        return Some(VerifyFault { rule: 5, at });
-    }
-    if !rule_6(reader, routine, instr) {
-        return Some(VerifyFault { rule: 6, at });
-    }
-    if !rule_7(reader, routine, instr) {
-        return Some(VerifyFault { rule: 7, at });
-    }
-    if !rule_8(reader, instr) {
-        return Some(VerifyFault { rule: 8, at });
-    }
-    if !rule_9(reader, routine, instr) {
-        return Some(VerifyFault { rule: 9, at });
-    }
-    if !rule_10(reader, routine, at, instr, seen) {
-        return Some(VerifyFault { rule: 10, at });
-    }
-    if !rule_11(reader, routine, at, instr) {
-        return Some(VerifyFault { rule: 11, at });
-    }
-    if !rule_12(reader, routine, instr) {
-        return Some(VerifyFault { rule: 12, at });
-    }
-    None
+    keeps(rule_4(reader, routine, instr), 4, at)?;
+    keeps(rule_5(reader, routine, instr), 5, at)?;
+    keeps(rule_6(reader, routine, instr), 6, at)?;
+    keeps(rule_7(reader, routine, instr), 7, at)?;
+    keeps(rule_8(reader, instr), 8, at)?;
+    keeps(rule_9(reader, routine, instr), 9, at)?;
+    keeps(rule_10(reader, routine, at, instr, seen), 10, at)?;
+    keeps(rule_11(reader, routine, at, instr), 11, at)?;
+    keeps(rule_12(reader, routine, instr), 12, at)
 }
 
 // The least broken rule, with its address, of the first instruction that breaks one. Only those
@@ -70,20 +64,19 @@ fn instrs_fault<R: CodeReader>(
     start: u32,
     end: u32,
     seen: &mut SeenCalls,
-) -> Option<VerifyFault>
+) -> Result<(), VerifyFault>
     requires routine { HasRoutine (R.code reader.now) routine }
     requires order { start ≤ end }
     requires end { end ≤ length (R.code reader.now).instrs }
     requires seen { AreFit (R.code reader.now) seen.old }
     ensures seen { AreFit (R.code reader.now) seen.new }
-    ensures fault { result ≡ instrs_fault_spec (R.code reader.now) routine start (end - start) }
+    ensures fault { TellsFault (instrs_fault_spec (R.code reader.now) routine start (end - start))
+        result }
 {
     for at in start..end {
-        if let Some(fault) = instr_fault(reader, routine, at, seen) {
-            return Some(fault);
-        }
+        instr_fault(reader, routine, at, seen)?;
     }
-    None
+    Ok(())
 }
 
 // The first fault of a routine: rules 1 to 3 of its head, reported with its number, and then its
@@ -93,33 +86,18 @@ fn routine_fault<R: CodeReader>(
     reader: &R,
     routine: u32,
     seen: &mut SeenCalls,
-) -> Option<VerifyFault>
+) -> Result<(), VerifyFault>
     requires routine { HasRoutine (R.code reader.now) routine }
     requires few { length (head_at (R.code reader.now) routine).params ≤ record_limit }
     requires order { start_at (R.code reader.now) routine ≤ end_at (R.code reader.now) routine }
     requires end { end_at (R.code reader.now) routine ≤ length (R.code reader.now).instrs }
     requires seen { AreFit (R.code reader.now) seen.old }
     ensures seen { AreFit (R.code reader.now) seen.new }
-    ensures fault { result ≡ routine_fault_spec (R.code reader.now) routine }
+    ensures fault { TellsFault (routine_fault_spec (R.code reader.now) routine) result }
 {
-    if !rule_1(reader, routine) {
-        return Some(VerifyFault {
-            rule: 1,
-            at: routine,
-        });
-    }
-    if !rule_2(reader, routine) {
-        return Some(VerifyFault {
-            rule: 2,
-            at: routine,
-        });
-    }
-    if !rule_3(reader, routine) {
-        return Some(VerifyFault {
-            rule: 3,
-            at: routine,
-        });
-    }
+    keeps(rule_1(reader, routine), 1, routine)?;
+    keeps(rule_2(reader, routine), 2, routine)?;
+    keeps(rule_3(reader, routine), 3, routine)?;
     instrs_fault(
         reader,
         routine,
@@ -131,16 +109,14 @@ fn routine_fault<R: CodeReader>(
 
 /// The first broken rule of the code.
 #[tactic(auto, using(crate::proofs::Starts::fault_steps, alma_code::proofs::Tables::tables))]
-pub fn code_fault<R: CodeReader>(reader: &R) -> Option<VerifyFault>
+pub fn code_fault<R: CodeReader>(reader: &R) -> Result<(), VerifyFault>
     requires table { IsTable (R.code reader.now) }
     requires counts { KeepsCounts (R.code reader.now) }
-    ensures { result ≡ code_fault_spec (R.code reader.now) }
+    ensures { TellsFault (code_fault_spec (R.code reader.now)) result }
 {
     let mut seen = SeenCalls::none();
     for routine in 0..reader.routine_count() {
-        if let Some(fault) = routine_fault(reader, routine, &mut seen) {
-            return Some(fault);
-        }
+        routine_fault(reader, routine, &mut seen)?;
     }
-    None
+    Ok(())
 }
