@@ -1,5 +1,5 @@
 // The first broken rule.
-ghost use Rattle.std.specs.Prelude.{◌≡◌, ◌≤◌, ◌<◌, ◌-◌, ◌×◌, MatchResult, true, false, length, get_or};
+ghost use Rattle.std.specs.Prelude.{◌≡◌, ◌≤◌, ◌<◌, ◌-◌, MatchResult, true, false, length, get_or};
 ghost use Rattle.alma_base.specs.Limits.{record_limit};
 ghost use Rattle.alma_code.specs.Plain.{head_at, start_at, end_at};
 ghost use Rattle.alma_code.specs.Records.{KeepsCounts};
