@@ -11,7 +11,7 @@ use alma_base::{NoMemory, Range};
 use alma_code::{
     Code, CodeParam, Instr, LATEST_VERSION, Line, ParamKind, RoutineHead, Run, SlotKind,
 };
-use alma_object_format::{push_i64, push_instr, push_words};
+use alma_object_format::{MAGIC, kinds, push_i64, push_instr, push_words};
 use std::alloc::Global;
 
 // The number of a kind of params, in its record.
@@ -19,11 +19,11 @@ fn param_number(kind: ParamKind) -> u32
     ensures { result ≡ param_number_of kind }
 {
     match kind {
-        ParamKind::Value => 0,
-        ParamKind::Place => 1,
-        ParamKind::Mix => 2,
-        ParamKind::Cells => 3,
-        ParamKind::Link => 4,
+        ParamKind::Value => kinds::PARAM_VALUE,
+        ParamKind::Place => kinds::PARAM_PLACE,
+        ParamKind::Mix => kinds::PARAM_MIX,
+        ParamKind::Cells => kinds::PARAM_CELLS,
+        ParamKind::Link => kinds::PARAM_LINK,
     }
 }
 
@@ -32,10 +32,10 @@ fn slot_number(kind: SlotKind) -> u32
     ensures { result ≡ slot_number_of kind }
 {
     match kind {
-        SlotKind::Number => 0,
-        SlotKind::Place(_) => 1,
-        SlotKind::Mark => 2,
-        SlotKind::Link(_) => 3,
+        SlotKind::Number => kinds::RUN_NUMBER,
+        SlotKind::Place(_) => kinds::RUN_PLACE,
+        SlotKind::Mark => kinds::RUN_MARK,
+        SlotKind::Link(_) => kinds::RUN_LINK,
     }
 }
 
@@ -49,7 +49,7 @@ fn slot_size(kind: SlotKind) -> u32
     }
 }
 
-// The record of a routine, with the ends of its parts.
+// The record of a routine, with the ends of its name, its params and its runs.
 fn push_routine(
     out: &mut Vec<u8>,
     routine: &RoutineHead,
@@ -257,7 +257,7 @@ fn push_header(
     requires texts { texts ≡ text_count_of (code_of code.now) }
     ensures { OnOk result (out.new.items ≡ out.old.items ++ header_bytes (code_of code.now)) }
 {
-    out.extend_from_slice(b"ALMA0OBJ")?;
+    out.extend_from_slice(MAGIC)?;
     out.extend_from_slice(&code.version.to_le_bytes())?;
     push_words(
         out,
@@ -279,7 +279,7 @@ fn push_header(
     Ok(())
 }
 
-// How many bytes of names, params and runs the routines have together.
+// How many bytes of names, how many params and how many runs the routines have together.
 #[derive(Clone, Copy)]
 struct Totals {
     names: u32,

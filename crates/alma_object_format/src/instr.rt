@@ -5,7 +5,7 @@ ghost use Rattle.alma_object_format.specs.Instrs.{const_bytes, instr_bytes, is_i
 ghost use Rattle.alma_object_format.specs.Lengths.{instr_len};
 
 use crate::bytes::{i64_at, push_i64, push_words, u32_at};
-use crate::opcode;
+use crate::{offsets, opcode};
 use alma_base::NoMemory;
 use alma_code::{Instr, LATEST_VERSION};
 
@@ -164,10 +164,10 @@ pub fn is_instr(version: u16, bytes: &[u8], at: usize) -> bool
     if opcode < 1 || opcode > last_opcode(version) {
         return false;
     }
-    let a = u32_at(bytes, at + 1);
-    let b = u32_at(bytes, at + 5);
-    let c = u32_at(bytes, at + 9);
-    let d = u32_at(bytes, at + 13);
+    let a = u32_at(bytes, at + offsets::WORD_A);
+    let b = u32_at(bytes, at + offsets::WORD_B);
+    let c = u32_at(bytes, at + offsets::WORD_C);
+    let d = u32_at(bytes, at + offsets::WORD_D);
     match USED_WORDS[usize::from(opcode) - 1] {
         0 => a == 0 && b == 0 && c == 0 && d == 0,
         1 => b == 0 && c == 0 && d == 0,
@@ -203,13 +203,13 @@ fn number_instr(bytes: &[u8], at: usize) -> Instr
     requires last { slice_index bytes.now at ≤ 13 }
     ensures { result ≡ instr_there bytes.now at }
 {
-    let to = u32_at(bytes, at + 1);
-    let left = u32_at(bytes, at + 5);
-    let right = u32_at(bytes, at + 9);
+    let to = u32_at(bytes, at + offsets::WORD_A);
+    let left = u32_at(bytes, at + offsets::WORD_B);
+    let right = u32_at(bytes, at + offsets::WORD_C);
     match bytes[at] {
         opcode::CONST => Instr::Const {
             to,
-            value: i64_at(bytes, at + 5),
+            value: i64_at(bytes, at + offsets::WORD_B),
         },
         opcode::MOVE => Instr::Move { to, from: left },
         opcode::ADD => Instr::Add { to, left, right },
@@ -239,10 +239,10 @@ fn place_instr(bytes: &[u8], at: usize) -> Instr
     requires last { slice_index bytes.now at ≤ 25 }
     ensures { result ≡ instr_there bytes.now at }
 {
-    let a = u32_at(bytes, at + 1);
-    let b = u32_at(bytes, at + 5);
-    let c = u32_at(bytes, at + 9);
-    let d = u32_at(bytes, at + 13);
+    let a = u32_at(bytes, at + offsets::WORD_A);
+    let b = u32_at(bytes, at + offsets::WORD_B);
+    let c = u32_at(bytes, at + offsets::WORD_C);
+    let d = u32_at(bytes, at + offsets::WORD_D);
     match bytes[at] {
         opcode::LOCAL => Instr::Local { to: a, first: b },
         opcode::GLOBAL => Instr::Global { to: a, first: b },
@@ -287,8 +287,8 @@ fn control_instr(bytes: &[u8], at: usize) -> Instr
     requires last { slice_index bytes.now at ≤ 36 }
     ensures { result ≡ instr_there bytes.now at }
 {
-    let a = u32_at(bytes, at + 1);
-    let b = u32_at(bytes, at + 5);
+    let a = u32_at(bytes, at + offsets::WORD_A);
+    let b = u32_at(bytes, at + offsets::WORD_B);
     match bytes[at] {
         opcode::JUMP => Instr::Jump { to: a },
         opcode::JUMP_ZERO => Instr::JumpZero { value: a, to: b },
@@ -314,10 +314,10 @@ fn call_instr(bytes: &[u8], at: usize) -> Instr
     requires last { slice_index bytes.now at ≤ 48 }
     ensures { result ≡ instr_there bytes.now at }
 {
-    let a = u32_at(bytes, at + 1);
-    let b = u32_at(bytes, at + 5);
-    let c = u32_at(bytes, at + 9);
-    let d = u32_at(bytes, at + 13);
+    let a = u32_at(bytes, at + offsets::WORD_A);
+    let b = u32_at(bytes, at + offsets::WORD_B);
+    let c = u32_at(bytes, at + offsets::WORD_C);
+    let d = u32_at(bytes, at + offsets::WORD_D);
     match bytes[at] {
         opcode::CALL => Instr::Call {
             routine: a,
@@ -353,9 +353,9 @@ fn link_instr(bytes: &[u8], at: usize) -> Instr
     requires last { slice_index bytes.now at ≤ 52 }
     ensures { result ≡ instr_there bytes.now at }
 {
-    let a = u32_at(bytes, at + 1);
-    let b = u32_at(bytes, at + 5);
-    let c = u32_at(bytes, at + 9);
+    let a = u32_at(bytes, at + offsets::WORD_A);
+    let b = u32_at(bytes, at + offsets::WORD_B);
+    let c = u32_at(bytes, at + offsets::WORD_C);
     match bytes[at] {
         opcode::OWN => Instr::Own { to: a },
         opcode::CHAIN => Instr::Chain {

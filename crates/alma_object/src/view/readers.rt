@@ -16,8 +16,9 @@ use alma_base::Range;
 use alma_code::{Instr, Line};
 use alma_object_format::{
     GLOBAL_LEN, INSTR_LEN, LINE_LEN, ObjectFault, PARAM_LEN, RANGE_LEN, ROUTINE_LEN, RUN_LEN,
-    code_end, code_start, instr_at, line_in, name_end, name_start, params_end, params_start,
-    range_in, read_header, runs_end, runs_start, sections_fault, text_end, text_start, u32_at,
+    code_end, code_start, instr_at, line_in, name_end, name_start, offsets, params_end,
+    params_start, range_in, read_header, runs_end, runs_start, sections_fault, text_end,
+    text_start, u32_at,
 };
 
 /// A global of an object. It lends its name.
@@ -162,9 +163,9 @@ impl<'b> ObjectView<'b> {
             param_count: params_end(self.bytes, &self.header, i) - params,
             runs_at: self.header.runs_at() + RUN_LEN * runs as usize,
             run_count: runs_end(self.bytes, &self.header, i) - runs,
-            slots: u32_at(self.bytes, at + 16),
-            declared: u32_at(self.bytes, at + 20),
-            result: u32_at(self.bytes, at + 24) == 1,
+            slots: u32_at(self.bytes, at + offsets::ROUTINE_SLOTS),
+            declared: u32_at(self.bytes, at + offsets::ROUTINE_DECLARED),
+            result: u32_at(self.bytes, at + offsets::ROUTINE_RESULT) == 1,
             code_start: code_start(self.bytes, &self.header, i),
             code_end: code_end(self.bytes, &self.header, i),
         }
@@ -194,8 +195,8 @@ impl<'b> ObjectView<'b> {
         let at = self.header.globals_at() + GLOBAL_LEN * i as usize;
         GlobalView {
             name: self.name(self.header.routines + i),
-            slot: u32_at(self.bytes, at + 4),
-            cells: u32_at(self.bytes, at + 8),
+            slot: u32_at(self.bytes, at + offsets::GLOBAL_SLOT),
+            cells: u32_at(self.bytes, at + offsets::GLOBAL_CELLS),
         }
     }
 
