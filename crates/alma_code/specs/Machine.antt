@@ -40,8 +40,8 @@ use Rattle.alma_code.specs.Plain.{PlainCode, PlainRoutine, head_at, start_at}
 
 -- ---- the state
 
--- the machine goes on, is failing, has ended, or is stuck: at a slot of a wrong kind, a dead place, or
--- an address or a number that is not in the code; a sound code never comes there
+-- the machine goes on, is failing, has ended, or is stuck: at a slot of a wrong kind, a dead place,
+-- or an address or a number that is not in the code; a sound code never comes there
 pub data Mode : Type 0 where
   Going : Mode
   Failing : Mode
@@ -478,10 +478,11 @@ run_faults =
     fault.Unknown ∷ fault.Range ∷ fault.Index ∷ fault.Overflow ∷ fault.ZeroDivide ∷ fault.NoCase
     ∷ fault.NoReturn ∷ fault.ReadRange ∷ fault.DepthFull ∷ fault.CellsFull ∷ []
 
--- the numbers of the faults that code may name: no arm of a CASE is for a value; a function returns none
+-- the number of the fault NoCase: no arm of a CASE is for the value
 abbrev pub no_case : ℕ
 no_case = 5
 
+-- the number of the fault NoReturn: a function ends and has returned nothing
 abbrev pub no_return : ℕ
 no_return = 6
 
