@@ -110,6 +110,7 @@ fn push_globals(out: &mut Vec<u8>, code: &Code, name_start: u32) -> Result<(), N
     Ok(())
 }
 
+// The record of a param.
 #[tactic(auto, unfolding(alma_object_format::specs::Object::param_bytes))]
 fn push_param(out: &mut Vec<u8>, param: CodeParam) -> Result<(), NoMemory>
     ensures { OnOk result (out.new.items ≡ out.old.items ++ param_bytes param) }
@@ -118,6 +119,7 @@ fn push_param(out: &mut Vec<u8>, param: CodeParam) -> Result<(), NoMemory>
     Ok(())
 }
 
+// The records of params.
 fn push_params(out: &mut Vec<u8>, params: &[CodeParam]) -> Result<(), NoMemory>
     ensures { OnOk result (out.new.items ≡ out.old.items ++ flat_map param_bytes params.now) }
 {
@@ -127,7 +129,7 @@ fn push_params(out: &mut Vec<u8>, params: &[CodeParam]) -> Result<(), NoMemory>
     Ok(())
 }
 
-// The params of the routines.
+// The records of the params of all routines.
 fn push_all_params(out: &mut Vec<u8>, code: &Code) -> Result<(), NoMemory>
     ensures { OnOk result (out.new.items ≡ out.old.items ++ flat_map param_bytes
         (flat_map (λ r. r.head.params) (code_of code.now).routines)) }
@@ -138,6 +140,7 @@ fn push_all_params(out: &mut Vec<u8>, code: &Code) -> Result<(), NoMemory>
     Ok(())
 }
 
+// The record of a run.
 #[tactic(auto, unfolding(alma_object_format::specs::Object::run_bytes))]
 fn push_run(out: &mut Vec<u8>, run: Run) -> Result<(), NoMemory>
     ensures { OnOk result (out.new.items ≡ out.old.items ++ run_bytes run) }
@@ -146,6 +149,7 @@ fn push_run(out: &mut Vec<u8>, run: Run) -> Result<(), NoMemory>
     Ok(())
 }
 
+// The records of runs.
 fn push_runs(out: &mut Vec<u8>, runs: &[Run]) -> Result<(), NoMemory>
     ensures { OnOk result (out.new.items ≡ out.old.items ++ flat_map run_bytes runs.now) }
 {
@@ -155,7 +159,7 @@ fn push_runs(out: &mut Vec<u8>, runs: &[Run]) -> Result<(), NoMemory>
     Ok(())
 }
 
-// The runs of the routines.
+// The records of the runs of all routines.
 fn push_all_runs(out: &mut Vec<u8>, code: &Code) -> Result<(), NoMemory>
     ensures { OnOk result (out.new.items ≡ out.old.items ++ flat_map run_bytes
         (flat_map (λ r. r.head.runs) (code_of code.now).routines)) }
@@ -166,6 +170,7 @@ fn push_all_runs(out: &mut Vec<u8>, code: &Code) -> Result<(), NoMemory>
     Ok(())
 }
 
+// The record of a range.
 #[tactic(auto, unfolding(alma_object_format::specs::Object::range_bytes))]
 fn push_range(out: &mut Vec<u8>, range: Range) -> Result<(), NoMemory>
     ensures { OnOk result (out.new.items ≡ out.old.items ++ range_bytes range) }
@@ -175,6 +180,7 @@ fn push_range(out: &mut Vec<u8>, range: Range) -> Result<(), NoMemory>
     Ok(())
 }
 
+// The records of ranges.
 fn push_ranges(out: &mut Vec<u8>, ranges: &[Range]) -> Result<(), NoMemory>
     ensures { OnOk result (out.new.items ≡ out.old.items ++ flat_map range_bytes ranges.now) }
 {
@@ -184,7 +190,7 @@ fn push_ranges(out: &mut Vec<u8>, ranges: &[Range]) -> Result<(), NoMemory>
     Ok(())
 }
 
-// The ends of the texts.
+// The records of the texts, which are their ends.
 fn push_text_ends(out: &mut Vec<u8>, code: &Code) -> Result<(), NoMemory>
     requires { KeepsCounts (code_of code.now) }
     ensures { OnOk result (out.new.items ≡ out.old.items ++ section
@@ -214,6 +220,7 @@ fn push_pools(out: &mut Vec<u8>, code: &Code) -> Result<(), NoMemory>
     Ok(())
 }
 
+// The records of instructions.
 fn push_instrs(out: &mut Vec<u8>, instrs: &[Instr]) -> Result<(), NoMemory>
     ensures { OnOk result (out.new.items ≡ out.old.items ++ flat_map instr_bytes instrs.now) }
 {
@@ -223,6 +230,7 @@ fn push_instrs(out: &mut Vec<u8>, instrs: &[Instr]) -> Result<(), NoMemory>
     Ok(())
 }
 
+// The record of a line.
 #[tactic(auto, unfolding(alma_object_format::specs::Object::line_bytes))]
 fn push_line(out: &mut Vec<u8>, line: Line) -> Result<(), NoMemory>
     ensures { OnOk result (out.new.items ≡ out.old.items ++ line_bytes line) }
@@ -231,6 +239,7 @@ fn push_line(out: &mut Vec<u8>, line: Line) -> Result<(), NoMemory>
     Ok(())
 }
 
+// The records of lines.
 fn push_lines(out: &mut Vec<u8>, lines: &[Line]) -> Result<(), NoMemory>
     ensures { OnOk result (out.new.items ≡ out.old.items ++ flat_map line_bytes lines.now) }
 {
@@ -334,7 +343,7 @@ fn total_texts(code: &Code) -> u32
     bytes
 }
 
-/// The bytes of the object of a code.
+/// The bytes of the object of a code: the header, and behind it the sections in their order.
 pub fn encode(alloc: Global, code: &Code) -> Result<Vec<u8>, NoMemory>
     requires { KeepsCounts (code_of code.now) }
     ensures { IfOk result (λ bytes. bytes.items ≡ object_bytes (code_of code.now)) }

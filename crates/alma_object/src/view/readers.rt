@@ -29,6 +29,7 @@ pub struct GlobalView<'b> {
     pub cells: u32,
 }
 
+// Whether an instruction is a ReadInt or a ReadChar.
 fn is_read(instr: Instr) -> bool
     ensures { result ≡ is_read_of instr }
 {
@@ -134,7 +135,7 @@ impl<'b> ObjectView<'b> {
         &self.bytes[start..end]
     }
 
-    // A name of routines and globals.
+    // The name with a number, counted through the routines and then the globals.
     #[tactic(auto, unfolding(alma_object_format::specs::Reading::name_in))]
     fn name(&self, name: u32) -> &'b [u8]
         requires { name < self.now.header.routines + self.now.header.globals }
@@ -146,7 +147,7 @@ impl<'b> ObjectView<'b> {
         self.part(at + start as usize, at + end as usize)
     }
 
-    // A routine below their count.
+    // The routine with a number below their count.
     #[tactic(auto, unfolding(alma_object_format::specs::Reading::routine_in), using(crate::proofs::Items::item_steps))]
     pub(crate) fn routine_view(&self, i: u32) -> RoutineView<'b>
         requires { i < self.now.header.routines }
@@ -171,7 +172,7 @@ impl<'b> ObjectView<'b> {
         }
     }
 
-    /// A routine, which lends its name and its records.
+    /// The routine with a number, which lends its name and its records; None past the last.
     #[tactic(auto, using(crate::proofs::Items::item_steps))]
     pub fn routine(&self, i: u32) -> Option<RoutineView<'b>>
         ensures routine { option_map routine_of_view result ≡ slice_get
@@ -186,7 +187,7 @@ impl<'b> ObjectView<'b> {
         }
     }
 
-    // A global below their count.
+    // The global with a number below their count.
     #[tactic(auto, unfolding(alma_object_format::specs::Reading::global_in))]
     pub(crate) fn global_view(&self, i: u32) -> GlobalView<'b>
         requires { i < self.now.header.globals }
@@ -200,7 +201,7 @@ impl<'b> ObjectView<'b> {
         }
     }
 
-    /// A global, which lends its name.
+    /// The global with a number, which lends its name; None past the last.
     #[tactic(auto, using(crate::proofs::Items::item_steps))]
     pub fn global(&self, i: u32) -> Option<GlobalView<'b>>
         ensures { option_map global_of_view result ≡ slice_get (code_of_view self.now).globals i }
@@ -212,7 +213,7 @@ impl<'b> ObjectView<'b> {
         }
     }
 
-    // The bytes of a text below their count.
+    // The bytes of the text with a number below their count.
     #[tactic(auto, unfolding(alma_object_format::specs::Reading::text_in))]
     pub(crate) fn text_view(&self, i: u32) -> &'b [u8]
         requires { i < self.now.header.texts }
@@ -224,7 +225,7 @@ impl<'b> ObjectView<'b> {
         self.part(at + start as usize, at + end as usize)
     }
 
-    /// The bytes of a text.
+    /// The bytes of the text with a number; None past the last.
     #[tactic(auto, using(crate::proofs::Items::item_steps))]
     pub fn text(&self, i: u32) -> Option<&'b [u8]>
         ensures { option_map (λ text. text.now) result ≡ slice_get (code_of_view self.now).texts i }
