@@ -370,8 +370,7 @@ pop_or_end s (e ∷ rest) =
       at = (top_of s.held).resume;
       now = (top_of s.held).frames;
       held = stack_after_pop s.held;
-      fails = s.fails
-          + 1;
+      fails = s.fails + 1;
     })
 
 -- what a failing machine does: it takes the top copy; a Forall that becomes a Done is a pop too
@@ -617,6 +616,5 @@ start code = record {
   held = [];
   steps = 0;
   choices = 0;
-  fails =
-      0;
+  fails = 0;
 }

@@ -54,7 +54,8 @@ value_of_record r = i64_at r.bytes.now (r.at + 5)
 abbrev pub no_line : Line
 no_line = record { at = 0; line = 0 }
 
--- the k-th of the lines begins at or before an address, where k is not 0, and the next behind it
+-- the k-th line, counted from 1, begins at or before an address where k is above 0, and the line
+-- behind it, where there is one, begins behind the address
 pub record IsSplit (at : ℕ) (lines : List Line) (k : ℕ) : Type 0 where
   pub top : k ≤ length lines
   pub before : 0 < k → (get_or lines (k - 1) no_line).at ≤ at
