@@ -256,14 +256,14 @@ fn push_header(
     code: &Code,
     params: u32,
     runs: u32,
-    names: u32,
-    texts: u32,
+    name_bytes: u32,
+    text_bytes: u32,
 ) -> Result<(), NoMemory>
     requires counts { KeepsCounts (code_of code.now) }
     requires params { params ≡ param_count_of (code_of code.now) }
     requires runs { runs ≡ run_count_of (code_of code.now) }
-    requires names { names ≡ name_count_of (code_of code.now) }
-    requires texts { texts ≡ text_count_of (code_of code.now) }
+    requires name_bytes { name_bytes ≡ name_count_of (code_of code.now) }
+    requires text_bytes { text_bytes ≡ text_count_of (code_of code.now) }
     ensures { OnOk result (out.new.items ≡ out.old.items ++ header_bytes (code_of code.now)) }
 {
     out.extend_from_slice(MAGIC)?;
@@ -277,8 +277,8 @@ fn push_header(
             runs,
             code.ranges.len() as u32,
             code.texts.len() as u32,
-            names,
-            texts,
+            name_bytes,
+            text_bytes,
             code.code.len() as u32,
         ],
     )?;
@@ -318,13 +318,14 @@ fn count_totals(code: &Code) -> Totals
     }
 }
 
-// How many bytes all names have together.
-fn total_names(code: &Code, routines: u32) -> u32
+// How many bytes all names have together, where those of the routines have so many.
+fn total_names(code: &Code, routine_names: u32) -> u32
     requires counts { KeepsCounts (code_of code.now) }
-    requires routines { routines ≡ sum_by (λ r. length r.name) (code_of code.now).routines }
+    requires routine_names { routine_names ≡ sum_by (λ r. length r.name)
+        (code_of code.now).routines }
     ensures { result ≡ name_count_of (code_of code.now) }
 {
-    let mut names = routines;
+    let mut names = routine_names;
     for global in &code.globals {
         names += global.name.len() as u32;
     }

@@ -177,7 +177,8 @@ pub fn is_instr(version: u16, bytes: &[u8], at: usize) -> bool
     }
 }
 
-/// The instruction whose record stands at an offset.
+/// The instruction whose record stands at an offset, or Fail where it has no opcode of a form. The
+/// forms stand in five groups, by their opcodes, each with a reader of its own.
 #[inline(always)]
 #[tactic(auto, unfolding(crate::specs::Instrs::instr_at))]
 pub fn instr_at(bytes: &[u8], at: usize) -> Instr
@@ -194,7 +195,7 @@ pub fn instr_at(bytes: &[u8], at: usize) -> Instr
     }
 }
 
-// The instruction of numbers at an offset.
+// The instruction at an offset, of a form on numbers: `CONST` to `IN_RANGE`.
 #[inline(always)]
 #[tactic(auto, unfolding(crate::specs::Instrs::instr_at))]
 fn number_instr(bytes: &[u8], at: usize) -> Instr
@@ -230,7 +231,7 @@ fn number_instr(bytes: &[u8], at: usize) -> Instr
     }
 }
 
-// The instruction of places at an offset.
+// The instruction at an offset, of a form on places: `LOCAL` to `SAME_CELLS`.
 #[inline(always)]
 #[tactic(auto, unfolding(crate::specs::Instrs::instr_at))]
 fn place_instr(bytes: &[u8], at: usize) -> Instr
@@ -278,7 +279,7 @@ fn place_instr(bytes: &[u8], at: usize) -> Instr
     }
 }
 
-// The instruction of control and choices at an offset.
+// The instruction at an offset, of a form of control and choices: `JUMP` to `FINISH`.
 #[inline(always)]
 #[tactic(auto, unfolding(crate::specs::Instrs::instr_at))]
 fn control_instr(bytes: &[u8], at: usize) -> Instr
@@ -305,7 +306,7 @@ fn control_instr(bytes: &[u8], at: usize) -> Instr
     }
 }
 
-// The instruction of calls, input, output and loops at an offset.
+// The instruction at an offset, of a form of calls, input, output and loops: `CALL` to `STEP`.
 #[inline(always)]
 #[tactic(auto, unfolding(crate::specs::Instrs::instr_at))]
 fn call_instr(bytes: &[u8], at: usize) -> Instr
@@ -344,7 +345,7 @@ fn call_instr(bytes: &[u8], at: usize) -> Instr
     }
 }
 
-// The instruction of links at an offset.
+// The instruction at an offset, of a form on links: `OWN` to `OUTER_SAME`.
 #[inline(always)]
 #[tactic(auto, unfolding(crate::specs::Instrs::instr_at))]
 fn link_instr(bytes: &[u8], at: usize) -> Instr
