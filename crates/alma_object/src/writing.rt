@@ -2,7 +2,7 @@
 ghost use Rattle.std.specs.Prelude.{◌≡◌, ◌+◌, ◌<◌, [], ◌∷◌, if◌then◌else◌, ◌++◌, length, sum_by, OnOk, IfOk};
 ghost use Rattle.std.specs.List.{flat_map};
 ghost use Rattle.alma_code.specs.Plain.{code_of};
-ghost use Rattle.alma_code.specs.Records.{KeepsCounts, param_count as param_count_of, run_count as run_count_of, name_count as name_count_of, text_count as text_count_of};
+ghost use Rattle.alma_code.specs.Records.{KeepsCounts, param_count as param_count_of, run_count as run_count_of, name_byte_count as name_byte_count_of, text_byte_count as text_byte_count_of};
 ghost use Rattle.alma_object_format.specs.Object.{section, header_bytes, pool_bytes, object_bytes, routine_bytes, global_bytes, param_bytes, run_bytes, range_bytes, text_end_bytes, line_bytes, param_number as param_number_of, slot_number as slot_number_of, slot_size as slot_size_of};
 ghost use Rattle.alma_object_format.specs.Bytes.{words_bytes};
 ghost use Rattle.alma_object_format.specs.Instrs.{instr_bytes};
@@ -262,8 +262,8 @@ fn push_header(
     requires counts { KeepsCounts (code_of code.now) }
     requires params { params ≡ param_count_of (code_of code.now) }
     requires runs { runs ≡ run_count_of (code_of code.now) }
-    requires name_bytes { name_bytes ≡ name_count_of (code_of code.now) }
-    requires text_bytes { text_bytes ≡ text_count_of (code_of code.now) }
+    requires name_bytes { name_bytes ≡ name_byte_count_of (code_of code.now) }
+    requires text_bytes { text_bytes ≡ text_byte_count_of (code_of code.now) }
     ensures { OnOk result (out.new.items ≡ out.old.items ++ header_bytes (code_of code.now)) }
 {
     out.extend_from_slice(MAGIC)?;
@@ -323,7 +323,7 @@ fn total_names(code: &Code, routine_names: u32) -> u32
     requires counts { KeepsCounts (code_of code.now) }
     requires routine_names { routine_names ≡ sum_by (λ r. length r.name)
         (code_of code.now).routines }
-    ensures { result ≡ name_count_of (code_of code.now) }
+    ensures { result ≡ name_byte_count_of (code_of code.now) }
 {
     let mut names = routine_names;
     for global in &code.globals {
@@ -335,7 +335,7 @@ fn total_names(code: &Code, routine_names: u32) -> u32
 // How many bytes the texts have together.
 fn total_texts(code: &Code) -> u32
     requires { KeepsCounts (code_of code.now) }
-    ensures { result ≡ text_count_of (code_of code.now) }
+    ensures { result ≡ text_byte_count_of (code_of code.now) }
 {
     let mut bytes: u32 = 0;
     for text in &code.texts {

@@ -10,7 +10,8 @@ use Rattle.alma_code.specs.declared.head.ParamKind.{ParamKind}
 use Rattle.alma_code.specs.declared.head.ParamKind.TheVariants as param
 use Rattle.alma_code.specs.declared.head.Run.{Run}
 use Rattle.alma_code.specs.Plain.{PlainCode, PlainGlobal, routine_at}
-use Rattle.alma_code.specs.Records.{param_count, run_count, name_count, text_count, latest_version, KeepsVersion, KeepsCounts, KeepsRecords}
+use Rattle.alma_code.specs.Records.{param_count, run_count, name_byte_count, text_byte_count, latest_version}
+use Rattle.alma_code.specs.Records.{KeepsVersion, KeepsCounts, KeepsRecords}
 use Rattle.alma_code.specs.Rules.{IsTable}
 use Rattle.alma_object_format.specs.Bytes.{u16_bytes, words_bytes, i64_bytes}
 use Rattle.alma_object_format.specs.Instrs.{instr_bytes}
@@ -104,7 +105,8 @@ line_bytes line = words_bytes (line.at ∷ line.line ∷ [])
 abbrev pub counts_of : PlainCode → List ℕ
 counts_of code =
     length code.routines ∷ length code.globals ∷ param_count code ∷ run_count code ∷ length code.ranges ∷ length code.texts
-    ∷ name_count code ∷ text_count code ∷ length code.instrs ∷ (if nat_eq code.version latest_version then length code.lines ∷ [] else [])
+    ∷ name_byte_count code ∷ text_byte_count code ∷ length code.instrs
+    ∷ (if nat_eq code.version latest_version then length code.lines ∷ [] else [])
 
 -- the magic, the version and the counts
 unfoldable pub header_bytes : PlainCode → List ℕ
