@@ -146,7 +146,7 @@ fn read_count(bytes: &[u8], at: usize, greatest: u32) -> Result<u32, ObjectFault
     Ok(count)
 }
 
-// The version, behind the magic, which ends where it begins.
+// The version, or the first fault of it and of the magic, which ends where the version begins.
 fn read_version(bytes: &[u8]) -> Result<u16, ObjectFault>
     ensures version { IfOk result (λ v. (v ≡ u16_there bytes.now 8) × (is_version v ≡ true)) }
     ensures fault { TellsFault (or_else (magic_fault bytes.now) (version_fault bytes.now)) result }
@@ -167,7 +167,7 @@ fn read_version(bytes: &[u8]) -> Result<u16, ObjectFault>
     Ok(version)
 }
 
-// The counts, and the version that was read before.
+// The header of a version, with its counts; the version was read before.
 #[tactic(auto, unfolding(crate::specs::Header::counts_fault))]
 fn read_counts(bytes: &[u8], version: u16) -> Result<Header, ObjectFault>
     requires version { version ≡ u16_there bytes.now 8 }

@@ -1,5 +1,5 @@
-//! Where the parts of the header stand, and where the fields of a record behind its first, which
-//! stands at 0: the offset in the object, and the offset in the record.
+//! Offsets of the parts of the header in an object, and of fields in their records. The first field
+//! of a record stands at 0 and has no name here.
 
 /// The version, behind the magic.
 pub const VERSION: usize = 8;
