@@ -76,8 +76,7 @@ start_frame h = record {
   back = 0;
   declared = h.declared;
   kinds = kinds_of 0 h.runs;
-  cells =
-      set (blank_cells h) 0 (cell.Int (pos 0));
+  cells = set (blank_cells h) 0 (cell.Int (pos 0));
 }
 
 -- ---- arguments

@@ -40,8 +40,8 @@ use Rattle.alma_code.specs.Plain.{PlainCode, PlainRoutine, head_at, start_at}
 
 -- ---- the state
 
--- the machine goes on, is failing, has ended, or is stuck: at a slot of a wrong kind, a dead place, or
--- an address or a number that is not in the code; a sound code never comes there
+-- the machine goes on, is failing, has ended, or is stuck: at a slot of a wrong kind, a dead place,
+-- or an address or a number that is not in the code; a sound code never comes there
 pub data Mode : Type 0 where
   Going : Mode
   Failing : Mode
@@ -370,8 +370,7 @@ pop_or_end s (e ∷ rest) =
       at = (top_of s.held).resume;
       now = (top_of s.held).frames;
       held = stack_after_pop s.held;
-      fails = s.fails
-          + 1;
+      fails = s.fails + 1;
     })
 
 -- what a failing machine does: it takes the top copy; a Forall that becomes a Done is a pop too
@@ -478,10 +477,11 @@ run_faults =
     fault.Unknown ∷ fault.Range ∷ fault.Index ∷ fault.Overflow ∷ fault.ZeroDivide ∷ fault.NoCase
     ∷ fault.NoReturn ∷ fault.ReadRange ∷ fault.DepthFull ∷ fault.CellsFull ∷ []
 
--- the numbers of the faults that code may name: no arm of a CASE is for a value; a function returns none
+-- the number of the fault NoCase: no arm of a CASE is for the value
 abbrev pub no_case : ℕ
 no_case = 5
 
+-- the number of the fault NoReturn: a function ends and has returned nothing
 abbrev pub no_return : ℕ
 no_return = 6
 
@@ -616,6 +616,5 @@ start code = record {
   held = [];
   steps = 0;
   choices = 0;
-  fails =
-      0;
+  fails = 0;
 }

@@ -26,12 +26,12 @@ abbrev pub run_count : PlainCode → ℕ
 run_count code = sum_by (λ r. length r.head.runs) code.routines
 
 -- how many bytes the names of routines and globals have together
-abbrev pub name_count : PlainCode → ℕ
-name_count code = sum_by (λ r. length r.name) code.routines + sum_by (λ g. length g.name) code.globals
+abbrev pub name_byte_count : PlainCode → ℕ
+name_byte_count code = sum_by (λ r. length r.name) code.routines + sum_by (λ g. length g.name) code.globals
 
 -- how many bytes the texts have together
-abbrev pub text_count : PlainCode → ℕ
-text_count code = sum_by length code.texts
+abbrev pub text_byte_count : PlainCode → ℕ
+text_byte_count code = sum_by length code.texts
 
 -- no count is past its greatest value
 pub record KeepsCounts (code : PlainCode) : Type 0 where
@@ -41,8 +41,8 @@ pub record KeepsCounts (code : PlainCode) : Type 0 where
   pub runs : run_count code ≤ slot_limit
   pub ranges : length code.ranges ≤ record_limit
   pub texts : length code.texts ≤ record_limit
-  pub names : name_count code ≤ pool_limit
-  pub text_bytes : text_count code ≤ pool_limit
+  pub names : name_byte_count code ≤ pool_limit
+  pub text_bytes : text_byte_count code ≤ pool_limit
   pub instrs : length code.instrs ≤ instr_limit
   pub lines : length code.lines ≤ record_limit
 

@@ -26,9 +26,11 @@ pub struct CellPlace {
 pub enum Cell {
     /// A number slot with no number yet.
     Unknown,
+    /// A number.
     Int(i64),
     /// A slot for a place, a mark or a link that was not written yet.
     Unset,
+    /// A place, or a link as a place.
     Place(CellPlace),
     /// A height of the stack of choice entries.
     Mark(usize),

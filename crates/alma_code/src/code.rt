@@ -10,10 +10,14 @@ use alma_base::Range;
 #[derive(Drop)]
 pub struct RoutineHead {
     pub name: Vec<u8>,
+    /// How many slots a frame of it has.
     pub slots: u32,
+    /// How many cells of a frame count for the limit of live cells.
     pub declared: u32,
+    /// The kinds of its slots, in runs.
     pub kinds: Vec<Run>,
     pub params: Vec<CodeParam>,
+    /// Whether it gives a number.
     pub result: bool,
     pub code_end: u32,
     ghost few_runs: { length kinds.items < 2 ^ 32 },

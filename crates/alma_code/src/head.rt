@@ -59,16 +59,20 @@ pub trait Head {
     fn declared(&self) -> u32
         ensures { result ≡ (head self.now).declared };
 
+    /// How many parameters the routine has.
     fn param_count(&self) -> u32
         ensures { result ≡ length (head self.now).params };
 
+    /// The parameter with a number, counted from 0.
     fn param(&self, i: u32) -> CodeParam
         requires { i < length (head self.now).params }
         ensures { slice_get (head self.now).params i ≡ Some result };
 
+    /// How many runs its slots have.
     fn run_count(&self) -> u32
         ensures { result ≡ length (head self.now).runs };
 
+    /// The run of slots with a number, counted from 0.
     fn run(&self, i: u32) -> Run
         requires { i < length (head self.now).runs }
         ensures { slice_get (head self.now).runs i ≡ Some result };

@@ -2,8 +2,8 @@
 ghost use Rattle.std.specs.Prelude.{◌≡◌};
 ghost use Rattle.alma_code.specs.Rules.{ends_routine};
 
-/// An instruction. Slots are those of the top frame; ranges, texts and routines are numbers in the
-/// tables of the code.
+/// An instruction; what each does is `act` of specs/Machine. Slots are those of the top frame;
+/// ranges, texts and routines are numbers in the tables of the code.
 #[derive(Clone, Copy)]
 pub enum Instr {
     Const {
@@ -241,8 +241,11 @@ pub enum Word {
     Link(u32),
     /// A slot of any kind.
     Slot(u32),
+    /// A range of the code.
     Range(u32),
+    /// A text of the code.
     Text(u32),
+    /// The address of an instruction.
     Address(u32),
     /// No word, one that names none of these, or one with a rule of its own, as those of a Call.
     Free,

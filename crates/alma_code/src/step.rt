@@ -20,6 +20,7 @@ pub enum End {
 /// What a step did.
 #[derive(Clone, Copy, Debug, PartialEq, Eq)]
 pub enum Step {
+    /// Nothing that is told.
     Went,
     /// Pushed a choice entry; the height after it.
     Chose(usize),
@@ -27,11 +28,13 @@ pub enum Step {
     Popped(usize),
     /// Dropped choice entries; the height after it.
     Cut(usize),
-    /// Entered a routine; how many frames live after it.
+    /// Entered a routine, which is the first number; how many frames live after it.
     Called(u32, u32),
     /// Left a routine; how many frames live after it.
     Returned(u32),
+    /// Printed bytes, or a text of none.
     Printed,
+    /// Ended the run, or found it ended.
     Done(End),
 }
 

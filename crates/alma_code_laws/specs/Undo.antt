@@ -10,12 +10,13 @@ use Rattle.alma_code.specs.Machine.{State, is_kind, step, after}
 abbrev pub Stands : PlainCode → (input : List ℕ) → (height steps : ℕ) → State → Type 0
 Stands code input height steps s = (n : ℕ) → n ≤ steps → height ≤ length (after code input n s).held
 
--- The frames at the choice point of a step from the first state to the second, which pushed an entry: those before the step; of a
--- body of FORALL those behind it, over which the carry is laid.
+-- the frames at the choice point of a step from the first state to the second, which pushed an
+-- entry: those before the step; of a body of FORALL those behind it, over which the carry is laid
 abbrev pub frames_at_choice : State → State → List PlainFrame
 frames_at_choice s t = if is_kind choice.Body (Some (top_of t.held).kind) then t.now else s.now
 
--- A step pushes an entry, which stands for so many steps, and then a step pops it: all frames are as they were at its choice point.
+-- where a step pushes an entry, which stands for so many steps, and then a step pops it, all frames
+-- are as they were at its choice point
 abbrev pub GivesBack : PlainCode → (input : List ℕ) → Type 0
 GivesBack code input =
     (s : State) (height steps : ℕ)

@@ -6,7 +6,7 @@ use Rattle.std.proofs.lemmas.List.Sums.{sum_by-cons}
 use Rattle.alma_base.specs.Limits.{size_limit, record_limit, pool_limit}
 use Rattle.alma_code.specs.Plain.{PlainCode, PlainRoutine, head_at}
 use Rattle.alma_code.specs.Plain as plain
-use Rattle.alma_code.specs.Records.{KeepsCounts, KeepsVersion, param_count, run_count, text_count}
+use Rattle.alma_code.specs.Records.{KeepsCounts, KeepsVersion, param_count, run_count, text_byte_count}
 use Rattle.alma_ir.specs.Tree.{Program, Routine, Global, routine_at, no_routine}
 use Rattle.alma_ir.specs.Checked.{IsChecked, link_slots}
 use Rattle.alma_ir.specs.Count.{nodes, routines_nodes, routine_nodes}
@@ -139,7 +139,7 @@ module _ (p : Program) (code : PlainCode) (checked : IsChecked p) (is_code : IsC
       (λ r lt. omega (arith, ap length (name_is p code is_code r (there r lt))))
 
   counts : 16 * nodes p ≤ size_limit → HasLongRuns p code → length code.ranges ≤ record_limit → length code.texts ≤ record_limit
-      → text_count code ≤ pool_limit → KeepsCounts code
+      → text_byte_count code ≤ pool_limit → KeepsCounts code
   counts few runs ranges texts bytes = record {
     routines = omega (arith, few, count p code is_code, few_routines p.routines);
     globals = omega (arith, checked.limits.globals, ap (λ c. length c.globals) is_code.is, length-map p.globals global_named);

@@ -12,7 +12,7 @@ use Rattle.std.proofs.lemmas.Map.Keys.{IsDistinct-head, IsDistinct-tail}
 use Rattle.alma_base.specs.Numbers.{char_range, int_eq}
 use Rattle.alma_base.specs.declared.number.Range.{Range}
 use Rattle.alma_code.specs.Plain.{PlainCode}
-use Rattle.alma_code.specs.Records.{text_count}
+use Rattle.alma_code.specs.Records.{text_byte_count}
 use Rattle.alma_ir.specs.Tree.{Program, Routine, routine_at, no_routine, Stmts, Stmt, Arms, CaseArms, Else, Branches, Loop, ReturnExpr}
 use Rattle.alma_ir.specs.Tree.{Test, Tests, Expr, Links, Args, Arg, Desig, Sels, Sel, no_stmts, more_stmts, TestStmt, Assign, CopyCells, If}
 use Rattle.alma_ir.specs.Tree.{While, Repeat, ForTo, SomeOf, Case, Either, Forall, Commit, Return, Read, WriteExpr, WriteText, WriteLine}
@@ -489,7 +489,7 @@ module _ (p : Program) (code : PlainCode) (held : HoldsEachOnce p code) where
     few_program_texts p,
   )
 
-  pub few_text_bytes : text_count code ≤ sum_by (λ r. sum_by text_bytes (stmts_phrases r.body)) p.routines
+  pub few_text_bytes : text_byte_count code ≤ sum_by (λ r. sum_by text_bytes (stmts_phrases r.body)) p.routines
   few_text_bytes = omega (
     arith,
     entries_weigh same_text text_itself length code.texts (program_texts p) held.texts.among

@@ -4,7 +4,7 @@ use Rattle.std.proofs.Common.{get_or, take, drop, refl, sym, ap, subst, ◌∙�
 use Rattle.std.specs.Prelude.{nat_eq, nat_le, ◌||◌, if◌then◌else◌, sum_by}
 use Rattle.std.specs.List.{starts_with}
 use Rattle.alma_code.specs.Plain.{PlainCode}
-use Rattle.alma_code.specs.Records.{param_count, run_count, name_count, text_count}
+use Rattle.alma_code.specs.Records.{param_count, run_count, name_byte_count, text_byte_count}
 use Rattle.alma_object_format.specs.declared.header.Header.{Header}
 use Rattle.alma_object_format.specs.Bytes.{u16_bytes, words_bytes, u16_at, u32_at}
 use Rattle.std.specs.Cmp.Lexicographic.{pointwise}
@@ -27,8 +27,8 @@ header_for code = record {
   runs = run_count code;
   ranges = length code.ranges;
   texts = length code.texts;
-  name_bytes = name_count code;
-  text_bytes = text_count code;
+  name_bytes = name_byte_count code;
+  text_bytes = text_byte_count code;
   instrs = length code.instrs;
   lines = length code.lines;
 }
@@ -171,10 +171,10 @@ module _ (code : PlainCode) (bytes : List ℕ) (object : IsObject code bytes) wh
       (or_clean (count_clean 22 8388608 (run_count code) (omega (arith, header_whole)) (count_at 3 22 refl (omega arith)) c.runs)
       (or_clean (count_clean 26 1048576 (length code.ranges) (omega (arith, header_whole)) (count_at 4 26 refl (omega arith)) c.ranges)
       (or_clean (count_clean 30 1048576 (length code.texts) (omega (arith, header_whole)) c5 c.texts)
-      (or_clean (count_clean 34 16777216 (name_count code) (omega (arith, header_whole)) (count_at 6 34 refl (omega arith)) c.names)
-      (or_clean (count_clean 38 16777216 (text_count code) (omega (arith, header_whole)) c7 c.text_bytes)
+      (or_clean (count_clean 34 16777216 (name_byte_count code) (omega (arith, header_whole)) (count_at 6 34 refl (omega arith)) c.names)
+      (or_clean (count_clean 38 16777216 (text_byte_count code) (omega (arith, header_whole)) c7 c.text_bytes)
       (unless_true (nat_eq (u32_at bytes 38) 0 || nat_le 1 (u32_at bytes 30)) (fault.BadCount 38) _
-      (ap (λ k. nat_eq k 0 || nat_le 1 (u32_at bytes 30)) c7 ∙ ap (λ k. nat_eq (text_count code) 0 || nat_le 1 k) c5
+      (ap (λ k. nat_eq k 0 || nat_le 1 (u32_at bytes 30)) c7 ∙ ap (λ k. nat_eq (text_byte_count code) 0 || nat_le 1 k) c5
       ∙ some_text code.texts)
       (or_clean (count_clean 42 4194304 (length code.instrs) (omega (arith, header_whole)) (count_at 8 42 refl (omega arith)) c.instrs)
       (lines_clean (nat_eq code.version 2) refl)))))))))))

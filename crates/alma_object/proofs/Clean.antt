@@ -17,7 +17,7 @@ use Rattle.alma_code.specs.declared.head.Run.{Run}
 use Rattle.alma_code.specs.declared.instr.Instr.TheVariants as I
 use Rattle.alma_code.specs.Layout.{RunsRise}
 use Rattle.alma_code.specs.Plain.{PlainCode, PlainRoutine, PlainGlobal, routine_at, head_at, start_at, end_at, no_routine}
-use Rattle.alma_code.specs.Records.{param_count, run_count, name_count, text_count, is_name, has_cells, same_kind, runs_differ}
+use Rattle.alma_code.specs.Records.{param_count, run_count, name_byte_count, text_byte_count, is_name, has_cells, same_kind, runs_differ}
 use Rattle.alma_code.specs.Records.{is_routine_record, is_first_kind, is_first_param, is_first_form, is_first_routine, IsFirst}
 use Rattle.alma_code.proofs.Tables.{end_inside}
 use Rattle.alma_object_format.specs.declared.fault.ObjectFault.TheVariants as fault
@@ -270,7 +270,7 @@ module _ (code : PlainCode) (bytes : List ℕ) (object : IsObject code bytes) (f
 
   -- ---- names
 
-  pub names_total : sum_by length (names_of code) ≡ name_count code
+  pub names_total : sum_by length (names_of code) ≡ name_byte_count code
   names_total =
       sum_by-append length (map (λ (r : PlainRoutine). r.name) code.routines) (map (λ (g : PlainGlobal). g.name) code.globals)
       ∙ ap (λ n. n + sum_by length (map (λ (g : PlainGlobal). g.name) code.globals))
@@ -326,9 +326,9 @@ module _ (code : PlainCode) (bytes : List ℕ) (object : IsObject code bytes) (f
       n (omega (arith, names_length))
 
   name_is_good : (n : ℕ) → n < length (names_of code)
-      → is_name_end (start_of (name_end bytes (header_for code)) n) (name_end bytes (header_for code) n) (name_count code)
+      → is_name_end (start_of (name_end bytes (header_for code)) n) (name_end bytes (header_for code) n) (name_byte_count code)
       (nat_eq (n + 1) (length code.routines + length code.globals)) ≡ true
-  name_is_good n lt = name_end_good (names_of code) (name_end bytes (header_for code)) (name_count code)
+  name_is_good n lt = name_end_good (names_of code) (name_end bytes (header_for code)) (name_byte_count code)
       (length code.routines + length code.globals) name_end_is names_total names_length n lt (name_some _ (named n lt))
 
   -- ---- no fault, section by section
@@ -634,7 +634,8 @@ module _ (code : PlainCode) (bytes : List ℕ) (object : IsObject code bytes) (f
       whole_true bytes (texts_at h + 4 * t + 4) _ (text_end_is t lt).0
       (unless_true (is_end (start_of (text_end bytes h) t) (text_end bytes h t) h.text_bytes (nat_eq (t + 1) h.texts))
       (fault.BadCount (texts_at h + 4 * t)) None
-      (end_good length code.texts (text_end bytes h) (text_count code) (length code.texts) (λ k low. (text_end_is k low).1) refl refl t []
+      (end_good length code.texts (text_end bytes h) (text_byte_count code) (length code.texts) (λ k low. (text_end_is k low).1) refl refl t
+      []
       lt) refl)
 
   -- a name stands in the pool

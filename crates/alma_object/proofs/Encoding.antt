@@ -10,7 +10,7 @@ use Rattle.alma_code.specs.declared.code.Code.{Code}
 use Rattle.alma_code.specs.declared.code.CodeGlobal.{CodeGlobal}
 use Rattle.alma_code.specs.declared.code.RoutineHead.{RoutineHead}
 use Rattle.alma_code.specs.Plain.{PlainCode, PlainRoutine, PlainGlobal, code_of, routine_of, global_of, no_routine}
-use Rattle.alma_code.specs.Records.{param_count, run_count, name_count, text_count}
+use Rattle.alma_code.specs.Records.{param_count, run_count, name_byte_count, text_byte_count}
 use Rattle.alma_object_format.specs.Bytes.{words_bytes}
 use Rattle.alma_object_format.specs.Object.{section, end_of, routine_bytes, global_bytes, text_end_bytes, no_global}
 
@@ -43,7 +43,7 @@ pub record RoutineStep (code : PlainCode) (i : ℕ) (x : RoutineHead) : Type 0 w
       + length x.params.items ≡ sum_by (λ y. length y.head.params) (take (i + 1) code.routines)
   pub runs : sum_by (λ y. length y.head.runs) (take i code.routines)
       + length x.kinds.items ≡ sum_by (λ y. length y.head.runs) (take (i + 1) code.routines)
-  pub names_within : sum_by (λ y. length y.name) (take (i + 1) code.routines) ≤ name_count code
+  pub names_within : sum_by (λ y. length y.name) (take (i + 1) code.routines) ≤ name_byte_count code
   pub params_within : sum_by (λ y. length y.head.params) (take (i + 1) code.routines) ≤ param_count code
   pub runs_within : sum_by (λ y. length y.head.runs) (take (i + 1) code.routines) ≤ run_count code
   pub bytes : routine_bytes code i ≡ words_bytes (
@@ -114,7 +114,7 @@ flat_map-map {C = C} f g (x ∷ xs) = ap (λ (t : List C). f (g x) ++ t) (flat_m
 -- one global further, whose name ends where the names of the routines end and len more
 pub record GlobalWritten (code : PlainCode) (i : ℕ) (x : CodeGlobal) (end : ℕ) : Type 0 where
   pub names : end ≡ sum_by (λ y. length y.name) code.routines + sum_by (λ y. length y.name) (take (i + 1) code.globals)
-  pub within : end ≤ name_count code
+  pub within : end ≤ name_byte_count code
   pub bytes : global_bytes code i ≡ words_bytes (end ∷ x.slot ∷ x.cells ∷ [])
 
 pub global_written : (code : Code) (ys : List CodeGlobal) (i : ℕ) (x : CodeGlobal) (a p : ℕ) → ys ≡ code.globals.items → i < length ys
@@ -148,7 +148,7 @@ global_written code ys i x a p same lt is ea ep =
 -- one text further
 pub record TextWritten (code : PlainCode) (i : ℕ) (end : ℕ) : Type 0 where
   pub ends : end ≡ sum_by length (take (i + 1) code.texts)
-  pub within : end ≤ text_count code
+  pub within : end ≤ text_byte_count code
   pub bytes : text_end_bytes code i ≡ words_bytes (end ∷ [])
 
 pub text_written : {V : Type 0} (code : PlainCode) (bytes_of : V → List ℕ) (rows ys : List V) (i : ℕ) (x : V) (a p : ℕ)

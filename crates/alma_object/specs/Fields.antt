@@ -11,7 +11,7 @@ use Rattle.alma_code.specs.Records.{KeepsVersion, KeepsCounts, KeepsRecords}
 use Rattle.alma_code.specs.Rules.{IsTable}
 use Rattle.alma_object_format.specs.Object.{slot_size}
 
--- the words of an instruction
+-- the words of an instruction, but for the value of a Const
 unfoldable pub fields : Instr → List ℕ
 fields (I.Const a v) = a ∷ []
 fields (I.Move a b) = a ∷ b ∷ []
@@ -71,17 +71,17 @@ abbrev pub FitsValue : Instr → Type 0
 FitsValue (I.Const a v) = FitsSigned w64 v
 FitsValue _ = ⊤
 
--- each word fits four bytes
+-- each word fits four bytes, and the value of a Const eight
 pub record FitsInstr (instr : Instr) : Type 0 where
   pub words : All (λ word. word < 2 ^ 32) (fields instr)
   pub value : FitsValue instr
 
--- the slots of a routine fit four bytes
+-- the number of slots of a routine, and of its declared cells, fit four bytes
 pub record FitsRoutine (routine : PlainRoutine) : Type 0 where
   pub slots : routine.head.slots < 2 ^ 32
   pub declared : routine.head.declared < 2 ^ 32
 
--- so do the slots of a global
+-- the first slot of a global, and the number of its cells, fit four bytes
 pub record FitsGlobal (global : PlainGlobal) : Type 0 where
   pub slot : global.slot < 2 ^ 32
   pub cells : global.cells < 2 ^ 32
@@ -106,7 +106,8 @@ pub record FitsFields (code : PlainCode) : Type 0 where
   pub instrs : All FitsInstr code.instrs
   pub lines : All (λ line. line.line < 2 ^ 32) code.lines
 
--- a code that the format allows: its version, counts, records and tables are as they must be, and its numbers fit their fields
+-- a code that the format allows: its version, counts, records and tables are as they must be, and
+-- its numbers fit their fields
 pub record KeepsFormat (code : PlainCode) : Type 0 where
   pub version : KeepsVersion code
   pub counts : KeepsCounts code

@@ -22,27 +22,31 @@ head_of_view v = record {
   has_result = v.result;
 }
 
--- the code of a view
+-- the code of an object view
 abbrev pub code_of_view : ObjectView → PlainCode
 code_of_view v = code_in v.bytes.now v.header
 
--- the routine of a view, and the global of one
+-- the routine of a routine view
 abbrev pub routine_of_view : RoutineView → PlainRoutine
 routine_of_view v = record { name = v.name.now; head = head_of_view v; code_end = v.code_end }
 
+-- the global of a global view
 abbrev pub global_of_view : GlobalView → PlainGlobal
 global_of_view v = record { name = v.name.now; slot = v.slot; cells = v.cells }
 
--- the instruction of a record, its opcode, its word behind so many bytes, and the value of a Const
+-- the instruction of a record
 abbrev pub instr_of_record : InstrRecord → Instr
 instr_of_record r = instr_at r.bytes.now r.at
 
+-- the opcode of a record
 abbrev pub opcode_of_record : InstrRecord → ℕ
 opcode_of_record r = slice_index r.bytes.now r.at
 
+-- the word of a record behind so many bytes of it: 1, 5, 9 or 13
 abbrev pub word_of_record : InstrRecord → ℕ → ℕ
 word_of_record r k = u32_at r.bytes.now (r.at + k)
 
+-- the value in a record of a Const, in the second and third word
 abbrev pub value_of_record : InstrRecord → ℤ
 value_of_record r = i64_at r.bytes.now (r.at + 5)
 
@@ -50,7 +54,8 @@ value_of_record r = i64_at r.bytes.now (r.at + 5)
 abbrev pub no_line : Line
 no_line = record { at = 0; line = 0 }
 
--- the first k lines begin at or before an address, as far as the last of them says, and the next begins behind it
+-- the k-th line, counted from 1, begins at or before an address where k is above 0, and the line
+-- behind it, where there is one, begins behind the address
 pub record IsSplit (at : ℕ) (lines : List Line) (k : ℕ) : Type 0 where
   pub top : k ≤ length lines
   pub before : 0 < k → (get_or lines (k - 1) no_line).at ≤ at

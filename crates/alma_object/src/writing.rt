@@ -2,7 +2,7 @@
 ghost use Rattle.std.specs.Prelude.{◌≡◌, ◌+◌, ◌<◌, [], ◌∷◌, if◌then◌else◌, ◌++◌, length, sum_by, OnOk, IfOk};
 ghost use Rattle.std.specs.List.{flat_map};
 ghost use Rattle.alma_code.specs.Plain.{code_of};
-ghost use Rattle.alma_code.specs.Records.{KeepsCounts, param_count as param_count_of, run_count as run_count_of, name_count as name_count_of, text_count as text_count_of};
+ghost use Rattle.alma_code.specs.Records.{KeepsCounts, param_count as param_count_of, run_count as run_count_of, name_byte_count as name_byte_count_of, text_byte_count as text_byte_count_of};
 ghost use Rattle.alma_object_format.specs.Object.{section, header_bytes, pool_bytes, object_bytes, routine_bytes, global_bytes, param_bytes, run_bytes, range_bytes, text_end_bytes, line_bytes, param_number as param_number_of, slot_number as slot_number_of, slot_size as slot_size_of};
 ghost use Rattle.alma_object_format.specs.Bytes.{words_bytes};
 ghost use Rattle.alma_object_format.specs.Instrs.{instr_bytes};
@@ -11,7 +11,7 @@ use alma_base::{NoMemory, Range};
 use alma_code::{
     Code, CodeParam, Instr, LATEST_VERSION, Line, ParamKind, RoutineHead, Run, SlotKind,
 };
-use alma_object_format::{push_i64, push_instr, push_words};
+use alma_object_format::{MAGIC, kinds, push_i64, push_instr, push_words};
 use std::alloc::Global;
 
 // The number of a kind of params, in its record.
@@ -19,11 +19,11 @@ fn param_number(kind: ParamKind) -> u32
     ensures { result ≡ param_number_of kind }
 {
     match kind {
-        ParamKind::Value => 0,
-        ParamKind::Place => 1,
-        ParamKind::Mix => 2,
-        ParamKind::Cells => 3,
-        ParamKind::Link => 4,
+        ParamKind::Value => kinds::PARAM_VALUE,
+        ParamKind::Place => kinds::PARAM_PLACE,
+        ParamKind::Mix => kinds::PARAM_MIX,
+        ParamKind::Cells => kinds::PARAM_CELLS,
+        ParamKind::Link => kinds::PARAM_LINK,
     }
 }
 
@@ -32,10 +32,10 @@ fn slot_number(kind: SlotKind) -> u32
     ensures { result ≡ slot_number_of kind }
 {
     match kind {
-        SlotKind::Number => 0,
-        SlotKind::Place(_) => 1,
-        SlotKind::Mark => 2,
-        SlotKind::Link(_) => 3,
+        SlotKind::Number => kinds::RUN_NUMBER,
+        SlotKind::Place(_) => kinds::RUN_PLACE,
+        SlotKind::Mark => kinds::RUN_MARK,
+        SlotKind::Link(_) => kinds::RUN_LINK,
     }
 }
 
@@ -49,7 +49,7 @@ fn slot_size(kind: SlotKind) -> u32
     }
 }
 
-// The record of a routine, with the ends of its parts.
+// The record of a routine, with the ends of its name, its params and its runs.
 fn push_routine(
     out: &mut Vec<u8>,
     routine: &RoutineHead,
@@ -110,6 +110,7 @@ fn push_globals(out: &mut Vec<u8>, code: &Code, name_start: u32) -> Result<(), N
     Ok(())
 }
 
+// The record of a param.
 #[tactic(auto, unfolding(alma_object_format::specs::Object::param_bytes))]
 fn push_param(out: &mut Vec<u8>, param: CodeParam) -> Result<(), NoMemory>
     ensures { OnOk result (out.new.items ≡ out.old.items ++ param_bytes param) }
@@ -118,6 +119,7 @@ fn push_param(out: &mut Vec<u8>, param: CodeParam) -> Result<(), NoMemory>
     Ok(())
 }
 
+// The records of params.
 fn push_params(out: &mut Vec<u8>, params: &[CodeParam]) -> Result<(), NoMemory>
     ensures { OnOk result (out.new.items ≡ out.old.items ++ flat_map param_bytes params.now) }
 {
@@ -127,7 +129,7 @@ fn push_params(out: &mut Vec<u8>, params: &[CodeParam]) -> Result<(), NoMemory>
     Ok(())
 }
 
-// The params of the routines.
+// The records of the params of all routines.
 fn push_all_params(out: &mut Vec<u8>, code: &Code) -> Result<(), NoMemory>
     ensures { OnOk result (out.new.items ≡ out.old.items ++ flat_map param_bytes
         (flat_map (λ r. r.head.params) (code_of code.now).routines)) }
@@ -138,6 +140,7 @@ fn push_all_params(out: &mut Vec<u8>, code: &Code) -> Result<(), NoMemory>
     Ok(())
 }
 
+// The record of a run.
 #[tactic(auto, unfolding(alma_object_format::specs::Object::run_bytes))]
 fn push_run(out: &mut Vec<u8>, run: Run) -> Result<(), NoMemory>
     ensures { OnOk result (out.new.items ≡ out.old.items ++ run_bytes run) }
@@ -146,6 +149,7 @@ fn push_run(out: &mut Vec<u8>, run: Run) -> Result<(), NoMemory>
     Ok(())
 }
 
+// The records of runs.
 fn push_runs(out: &mut Vec<u8>, runs: &[Run]) -> Result<(), NoMemory>
     ensures { OnOk result (out.new.items ≡ out.old.items ++ flat_map run_bytes runs.now) }
 {
@@ -155,7 +159,7 @@ fn push_runs(out: &mut Vec<u8>, runs: &[Run]) -> Result<(), NoMemory>
     Ok(())
 }
 
-// The runs of the routines.
+// The records of the runs of all routines.
 fn push_all_runs(out: &mut Vec<u8>, code: &Code) -> Result<(), NoMemory>
     ensures { OnOk result (out.new.items ≡ out.old.items ++ flat_map run_bytes
         (flat_map (λ r. r.head.runs) (code_of code.now).routines)) }
@@ -166,6 +170,7 @@ fn push_all_runs(out: &mut Vec<u8>, code: &Code) -> Result<(), NoMemory>
     Ok(())
 }
 
+// The record of a range.
 #[tactic(auto, unfolding(alma_object_format::specs::Object::range_bytes))]
 fn push_range(out: &mut Vec<u8>, range: Range) -> Result<(), NoMemory>
     ensures { OnOk result (out.new.items ≡ out.old.items ++ range_bytes range) }
@@ -175,6 +180,7 @@ fn push_range(out: &mut Vec<u8>, range: Range) -> Result<(), NoMemory>
     Ok(())
 }
 
+// The records of ranges.
 fn push_ranges(out: &mut Vec<u8>, ranges: &[Range]) -> Result<(), NoMemory>
     ensures { OnOk result (out.new.items ≡ out.old.items ++ flat_map range_bytes ranges.now) }
 {
@@ -184,7 +190,7 @@ fn push_ranges(out: &mut Vec<u8>, ranges: &[Range]) -> Result<(), NoMemory>
     Ok(())
 }
 
-// The ends of the texts.
+// The records of the texts, which are their ends.
 fn push_text_ends(out: &mut Vec<u8>, code: &Code) -> Result<(), NoMemory>
     requires { KeepsCounts (code_of code.now) }
     ensures { OnOk result (out.new.items ≡ out.old.items ++ section
@@ -214,6 +220,7 @@ fn push_pools(out: &mut Vec<u8>, code: &Code) -> Result<(), NoMemory>
     Ok(())
 }
 
+// The records of instructions.
 fn push_instrs(out: &mut Vec<u8>, instrs: &[Instr]) -> Result<(), NoMemory>
     ensures { OnOk result (out.new.items ≡ out.old.items ++ flat_map instr_bytes instrs.now) }
 {
@@ -223,6 +230,7 @@ fn push_instrs(out: &mut Vec<u8>, instrs: &[Instr]) -> Result<(), NoMemory>
     Ok(())
 }
 
+// The record of a line.
 #[tactic(auto, unfolding(alma_object_format::specs::Object::line_bytes))]
 fn push_line(out: &mut Vec<u8>, line: Line) -> Result<(), NoMemory>
     ensures { OnOk result (out.new.items ≡ out.old.items ++ line_bytes line) }
@@ -231,6 +239,7 @@ fn push_line(out: &mut Vec<u8>, line: Line) -> Result<(), NoMemory>
     Ok(())
 }
 
+// The records of lines.
 fn push_lines(out: &mut Vec<u8>, lines: &[Line]) -> Result<(), NoMemory>
     ensures { OnOk result (out.new.items ≡ out.old.items ++ flat_map line_bytes lines.now) }
 {
@@ -247,17 +256,17 @@ fn push_header(
     code: &Code,
     params: u32,
     runs: u32,
-    names: u32,
-    texts: u32,
+    name_bytes: u32,
+    text_bytes: u32,
 ) -> Result<(), NoMemory>
     requires counts { KeepsCounts (code_of code.now) }
     requires params { params ≡ param_count_of (code_of code.now) }
     requires runs { runs ≡ run_count_of (code_of code.now) }
-    requires names { names ≡ name_count_of (code_of code.now) }
-    requires texts { texts ≡ text_count_of (code_of code.now) }
+    requires name_bytes { name_bytes ≡ name_byte_count_of (code_of code.now) }
+    requires text_bytes { text_bytes ≡ text_byte_count_of (code_of code.now) }
     ensures { OnOk result (out.new.items ≡ out.old.items ++ header_bytes (code_of code.now)) }
 {
-    out.extend_from_slice(b"ALMA0OBJ")?;
+    out.extend_from_slice(MAGIC)?;
     out.extend_from_slice(&code.version.to_le_bytes())?;
     push_words(
         out,
@@ -268,8 +277,8 @@ fn push_header(
             runs,
             code.ranges.len() as u32,
             code.texts.len() as u32,
-            names,
-            texts,
+            name_bytes,
+            text_bytes,
             code.code.len() as u32,
         ],
     )?;
@@ -279,7 +288,7 @@ fn push_header(
     Ok(())
 }
 
-// How many bytes of names, params and runs the routines have together.
+// How many bytes of names, how many params and how many runs the routines have together.
 #[derive(Clone, Copy)]
 struct Totals {
     names: u32,
@@ -309,13 +318,14 @@ fn count_totals(code: &Code) -> Totals
     }
 }
 
-// How many bytes all names have together.
-fn total_names(code: &Code, routines: u32) -> u32
+// How many bytes all names have together, where those of the routines have so many.
+fn total_names(code: &Code, routine_names: u32) -> u32
     requires counts { KeepsCounts (code_of code.now) }
-    requires routines { routines ≡ sum_by (λ r. length r.name) (code_of code.now).routines }
-    ensures { result ≡ name_count_of (code_of code.now) }
+    requires routine_names { routine_names ≡ sum_by (λ r. length r.name)
+        (code_of code.now).routines }
+    ensures { result ≡ name_byte_count_of (code_of code.now) }
 {
-    let mut names = routines;
+    let mut names = routine_names;
     for global in &code.globals {
         names += global.name.len() as u32;
     }
@@ -325,7 +335,7 @@ fn total_names(code: &Code, routines: u32) -> u32
 // How many bytes the texts have together.
 fn total_texts(code: &Code) -> u32
     requires { KeepsCounts (code_of code.now) }
-    ensures { result ≡ text_count_of (code_of code.now) }
+    ensures { result ≡ text_byte_count_of (code_of code.now) }
 {
     let mut bytes: u32 = 0;
     for text in &code.texts {
@@ -334,7 +344,7 @@ fn total_texts(code: &Code) -> u32
     bytes
 }
 
-/// The bytes of the object of a code.
+/// The bytes of the object of a code: the header, and behind it the sections in their order.
 pub fn encode(alloc: Global, code: &Code) -> Result<Vec<u8>, NoMemory>
     requires { KeepsCounts (code_of code.now) }
     ensures { IfOk result (λ bytes. bytes.items ≡ object_bytes (code_of code.now)) }

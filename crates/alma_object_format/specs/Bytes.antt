@@ -5,19 +5,19 @@ use Rattle.std.specs.Int.{w16, w32, w64, from_le_bytes, to_le_bytes, cast_signed
 
 -- ---- written
 
--- a number below 2 ^ 16
+-- the two bytes of a number below 2 ^ 16
 unfoldable pub u16_bytes : ℕ → List ℕ
 u16_bytes n = to_le_bytes w16 n
 
--- a number below 2 ^ 32
+-- the four bytes of a number below 2 ^ 32
 unfoldable pub u32_bytes : ℕ → List ℕ
 u32_bytes n = to_le_bytes w32 n
 
--- words, which are numbers below 2 ^ 32, one after another
+-- the bytes of words, which are numbers below 2 ^ 32, one after another
 abbrev pub words_bytes : List ℕ → List ℕ
 words_bytes words = flat_map u32_bytes words
 
--- a number of INTEGER
+-- the eight bytes of a number of INTEGER
 unfoldable pub i64_bytes : ℤ → List ℕ
 i64_bytes n = to_le_bytes w64 (cast_unsigned w64 n)
 

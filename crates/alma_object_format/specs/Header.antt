@@ -33,7 +33,7 @@ header_of bytes = record {
 
 -- ---- the faults of the header
 
--- of the magic
+-- of the magic, which is eight bytes
 abbrev pub magic_fault : List ℕ → Option ObjectFault
 magic_fault bytes = whole bytes 8 (unless (starts_with nat_eq bytes magic) fault.Magic None)
 
@@ -65,13 +65,14 @@ counts_fault bytes =
     (or_else (count_fault bytes 42 instr_limit)
     (if nat_eq (u16_at bytes 8) latest_version then count_fault bytes 46 record_limit else None)))))))))))
 
--- of the header
+-- of the header: of the magic, else of the version, else of the counts
 unfoldable pub header_fault : List ℕ → Option ObjectFault
 header_fault bytes = or_else (magic_fault bytes) (or_else (version_fault bytes) (counts_fault bytes))
 
 -- ---- what a header without fault keeps
 
--- no count is past its greatest value
+-- the version is known, and the first has no lines; no count is past its greatest value, there is a
+-- routine, and no text bytes stand without a text
 pub record IsWithin (h : Header) : Type 0 where
   pub version : is_version h.version ≡ true
   pub no_lines : h.version ≡ first_version → h.lines ≡ 0
@@ -88,40 +89,48 @@ pub record IsWithin (h : Header) : Type 0 where
   pub instrs : h.instrs ≤ instr_limit
   pub lines : h.lines ≤ record_limit
 
--- ---- where the sections begin
+-- ---- where the sections begin, each behind the one before
 
--- the routines begin behind the last count
+-- the records of routines, behind the last count
 abbrev pub routines_at : Header → ℕ
 routines_at h = if nat_eq h.version latest_version then header_len else first_header_len
 
+-- the records of globals
 abbrev pub globals_at : Header → ℕ
 globals_at h = routines_at h + routine_len * h.routines
 
+-- the records of params
 abbrev pub params_at : Header → ℕ
 params_at h = globals_at h + global_len * h.globals
 
+-- the records of runs
 abbrev pub runs_at : Header → ℕ
 runs_at h = params_at h + param_len * h.params
 
+-- the records of ranges
 abbrev pub ranges_at : Header → ℕ
 ranges_at h = runs_at h + run_len * h.runs
 
+-- the ends of the texts
 abbrev pub texts_at : Header → ℕ
 texts_at h = ranges_at h + range_len * h.ranges
 
--- the two pools
+-- the bytes of all names
 abbrev pub name_pool_at : Header → ℕ
 name_pool_at h = texts_at h + text_end_len * h.texts
 
+-- the bytes of all texts
 abbrev pub text_pool_at : Header → ℕ
 text_pool_at h = name_pool_at h + h.name_bytes
 
+-- the records of instructions
 abbrev pub instrs_at : Header → ℕ
 instrs_at h = text_pool_at h + h.text_bytes
 
+-- the records of lines
 abbrev pub lines_at : Header → ℕ
 lines_at h = instrs_at h + instr_len * h.instrs
 
--- behind the last section
+-- the end of the object, behind the last section
 abbrev pub end_at : Header → ℕ
 end_at h = lines_at h + line_len * h.lines

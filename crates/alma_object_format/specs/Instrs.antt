@@ -147,7 +147,8 @@ last_opcode version = if nat_eq version latest_version then 52 else 48
 abbrev pub words_at : List ℕ → (at : ℕ) → List ℕ
 words_at bytes at = u32_at bytes at ∷ u32_at bytes (at + 4) ∷ u32_at bytes (at + 8) ∷ u32_at bytes (at + 12) ∷ []
 
--- the record at an offset has an opcode of the version, and each word that its form does not use is 0
+-- the record at an offset has an opcode of the version, and each word that the form does not use is
+-- 0
 unfoldable pub is_instr : (version : ℕ) → List ℕ → (at : ℕ) → Bool
 is_instr version bytes at =
     (nat_le 1 (slice_index bytes at) && nat_le (slice_index bytes at) (last_opcode version))

@@ -10,7 +10,8 @@ use Rattle.alma_code.specs.declared.head.ParamKind.{ParamKind}
 use Rattle.alma_code.specs.declared.head.ParamKind.TheVariants as param
 use Rattle.alma_code.specs.declared.head.Run.{Run}
 use Rattle.alma_code.specs.Plain.{PlainCode, PlainGlobal, routine_at}
-use Rattle.alma_code.specs.Records.{param_count, run_count, name_count, text_count, latest_version, KeepsVersion, KeepsCounts, KeepsRecords}
+use Rattle.alma_code.specs.Records.{param_count, run_count, name_byte_count, text_byte_count, latest_version}
+use Rattle.alma_code.specs.Records.{KeepsVersion, KeepsCounts, KeepsRecords}
 use Rattle.alma_code.specs.Rules.{IsTable}
 use Rattle.alma_object_format.specs.Bytes.{u16_bytes, words_bytes, i64_bytes}
 use Rattle.alma_object_format.specs.Instrs.{instr_bytes}
@@ -18,6 +19,7 @@ use Rattle.alma_object_format.specs.Header.{magic}
 
 -- ---- the numbers of kinds
 
+-- the number of a kind of params, in its record
 abbrev pub param_number : ParamKind → ℕ
 param_number param.Value = 0
 param_number param.Place = 1
@@ -25,13 +27,14 @@ param_number param.Mix = 2
 param_number param.Cells = 3
 param_number param.Link = 4
 
+-- the number of a kind of slots, in the record of a run
 abbrev pub slot_number : SlotKind → ℕ
 slot_number slot.Number = 0
 slot_number (slot.Place size) = 1
 slot_number slot.Mark = 2
 slot_number (slot.Link size) = 3
 
--- the length of a place slot, or the routine of a link slot
+-- the length of a place slot, or the routine of a link slot; else 0
 abbrev pub slot_size : SlotKind → ℕ
 slot_size slot.Number = 0
 slot_size (slot.Place size) = size
@@ -55,7 +58,8 @@ abbrev pub no_global : PlainGlobal
 no_global = record { name = []; slot = 0; cells = 0 }
 
 module _ (code : PlainCode) where
-  -- the ends of its name, params, runs and code, its slots and declared cells, and whether it has a result
+  -- the ends of its name, params, runs and code, its slots and declared cells, and 1 where it has a
+  -- result, else 0
   unfoldable pub routine_bytes : ℕ → List ℕ
   routine_bytes r = words_bytes (
       end_of (λ x. length x.name) code.routines r
@@ -79,15 +83,19 @@ module _ (code : PlainCode) where
   unfoldable pub text_end_bytes : ℕ → List ℕ
   text_end_bytes t = words_bytes (end_of length code.texts t ∷ [])
 
+-- its kind and its cells
 unfoldable pub param_bytes : CodeParam → List ℕ
 param_bytes p = words_bytes (param_number p.kind ∷ p.cells ∷ [])
 
+-- its kind, its length or routine, and its end
 unfoldable pub run_bytes : Run → List ℕ
 run_bytes run = words_bytes (slot_number run.kind ∷ slot_size run.kind ∷ run.end ∷ [])
 
+-- low and high, of eight bytes each
 unfoldable pub range_bytes : Range → List ℕ
 range_bytes range = i64_bytes range.low ++ i64_bytes range.high
 
+-- the address and the number of the line
 unfoldable pub line_bytes : Line → List ℕ
 line_bytes line = words_bytes (line.at ∷ line.line ∷ [])
 
@@ -97,8 +105,10 @@ line_bytes line = words_bytes (line.at ∷ line.line ∷ [])
 abbrev pub counts_of : PlainCode → List ℕ
 counts_of code =
     length code.routines ∷ length code.globals ∷ param_count code ∷ run_count code ∷ length code.ranges ∷ length code.texts
-    ∷ name_count code ∷ text_count code ∷ length code.instrs ∷ (if nat_eq code.version latest_version then length code.lines ∷ [] else [])
+    ∷ name_byte_count code ∷ text_byte_count code ∷ length code.instrs
+    ∷ (if nat_eq code.version latest_version then length code.lines ∷ [] else [])
 
+-- the magic, the version and the counts
 unfoldable pub header_bytes : PlainCode → List ℕ
 header_bytes code = magic ++ (u16_bytes code.version ++ words_bytes (counts_of code))
 

@@ -23,43 +23,51 @@ items of n = map of (range_with_len 0 n)
 
 -- ---- records, each at its offset
 
--- the kind with a number
+-- the kind of a param with a number; Link for each other number
 abbrev pub param_kind : ℕ → ParamKind
 param_kind n = get_or (param.Value ∷ param.Place ∷ param.Mix ∷ param.Cells ∷ []) n param.Link
 
+-- the kind of a run with a number, and with its length or routine; Link for each other number
 abbrev pub slot_kind : (kind size : ℕ) → SlotKind
 slot_kind n size = get_or (slot.Number ∷ slot.Place size ∷ slot.Mark ∷ []) n (slot.Link size)
 
 module _ (bytes : List ℕ) where
+  -- the param whose record stands at an offset
   unfoldable pub param_in : (at : ℕ) → CodeParam
   param_in at = record { kind = param_kind (u32_at bytes at); cells = u32_at bytes (at + 4) }
 
+  -- the run whose record stands at an offset
   unfoldable pub run_in : (at : ℕ) → Run
   run_in at = record { kind = slot_kind (u32_at bytes at) (u32_at bytes (at + 4)); end = u32_at bytes (at + 8) }
 
+  -- the range whose record stands at an offset
   unfoldable pub range_in : (at : ℕ) → Range
   range_in at = record { low = i64_at bytes at; high = i64_at bytes (at + 8) }
 
+  -- the line whose record stands at an offset
   unfoldable pub line_in : (at : ℕ) → Line
   line_in at = record { at = u32_at bytes at; line = u32_at bytes (at + 4) }
 
-  -- n records from an offset on
+  -- the params of n records from an offset on
   abbrev pub params_in : (at n : ℕ) → List CodeParam
   params_in at n = items (λ k. param_in (at + param_len * k)) n
 
+  -- the runs of n records from an offset on
   abbrev pub runs_in : (at n : ℕ) → List Run
   runs_in at n = items (λ k. run_in (at + run_len * k)) n
 
 -- ---- the whole code
 
 module _ (bytes : List ℕ) (h : Header) where
-  -- a name of routines and globals, and a text
+  -- the name with a number, counted through the routines and then the globals
   unfoldable pub name_in : ℕ → List ℕ
   name_in n = slice_range bytes (name_pool_at h + start_of (name_end bytes h) n) (name_pool_at h + name_end bytes h n)
 
+  -- the text with a number
   unfoldable pub text_in : ℕ → List ℕ
   text_in t = slice_range bytes (text_pool_at h + start_of (text_end bytes h) t) (text_pool_at h + text_end bytes h t)
 
+  -- the routine with a number
   unfoldable pub routine_in : ℕ → PlainRoutine
   routine_in r = record {
     name = name_in r;
@@ -74,6 +82,7 @@ module _ (bytes : List ℕ) (h : Header) where
     code_end = code_end bytes h r;
   }
 
+  -- the global with a number
   unfoldable pub global_in : ℕ → PlainGlobal
   global_in g = record {
     name = name_in (h.routines + g);

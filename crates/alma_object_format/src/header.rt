@@ -7,11 +7,15 @@ ghost use Rattle.alma_object_format.specs.Header.{IsWithin, header_of, is_versio
 use crate::bytes::{u16_at, u32_at};
 use crate::fault::ObjectFault;
 use crate::lengths::{
-    FIRST_HEADER_LEN, GLOBAL_LEN, HEADER_LEN, INSTR_LEN, LINE_LEN, PARAM_LEN, RANGE_LEN,
+    COUNT_LEN, FIRST_HEADER_LEN, GLOBAL_LEN, HEADER_LEN, INSTR_LEN, LINE_LEN, PARAM_LEN, RANGE_LEN,
     ROUTINE_LEN, RUN_LEN, TEXT_END_LEN,
 };
+use crate::offsets;
 use alma_base::{INSTR_LIMIT, POOL_LIMIT, RECORD_LIMIT, ROUTINE_LIMIT, SLOT_LIMIT};
 use alma_code::{FIRST_VERSION, LATEST_VERSION};
+
+/// The bytes that each object begins with.
+pub const MAGIC: &[u8] = b"ALMA0OBJ";
 
 /// The version, and how many records or bytes each section has.
 #[derive(Clone, Copy)]
@@ -42,8 +46,7 @@ impl Header {
         }
     }
 
-    /// The offset of the records of globals, of 12 bytes each; those of routines, of 28 bytes, end
-    /// there.
+    /// The offset of the records of globals. Those of routines end there.
     pub fn globals_at(&self) -> usize
         ensures within { result < 2 ^ 38 }
         ensures offset { result ≡ globals_at self.now }
@@ -51,7 +54,7 @@ impl Header {
         self.routines_at() + ROUTINE_LEN * self.routines as usize
     }
 
-    /// The offset of the records of params, of 8 bytes each: a kind and a number of cells.
+    /// The offset of the records of params: a kind and a number of cells.
     pub fn params_at(&self) -> usize
         ensures within { result < 2 ^ 39 }
         ensures offset { result ≡ params_at self.now }
@@ -59,7 +62,7 @@ impl Header {
         self.globals_at() + GLOBAL_LEN * self.globals as usize
     }
 
-    /// The offset of the records of runs of slots, of 12 bytes each.
+    /// The offset of the records of runs of slots.
     pub fn runs_at(&self) -> usize
         ensures within { result < 2 ^ 40 }
         ensures offset { result ≡ runs_at self.now }
@@ -67,7 +70,7 @@ impl Header {
         self.params_at() + PARAM_LEN * self.params as usize
     }
 
-    /// The offset of the records of ranges, of 16 bytes each: low and high.
+    /// The offset of the records of ranges: low and high.
     pub fn ranges_at(&self) -> usize
         ensures within { result < 2 ^ 41 }
         ensures offset { result ≡ ranges_at self.now }
@@ -75,7 +78,7 @@ impl Header {
         self.runs_at() + RUN_LEN * self.runs as usize
     }
 
-    /// The offset of the records of texts, of 4 bytes each; a record has the end of its text alone.
+    /// The offset of the records of texts; a record has the end of its text alone.
     pub fn texts_at(&self) -> usize
         ensures within { result < 2 ^ 42 }
         ensures offset { result ≡ texts_at self.now }
@@ -99,7 +102,7 @@ impl Header {
         self.name_pool_at() + self.name_bytes as usize
     }
 
-    /// The offset of the records of instructions, of 17 bytes each: the opcode and four words.
+    /// The offset of the records of instructions: the opcode and four words.
     pub fn instrs_at(&self) -> usize
         ensures within { result < 2 ^ 45 }
         ensures offset { result ≡ instrs_at self.now }
@@ -107,7 +110,7 @@ impl Header {
         self.text_pool_at() + self.text_bytes as usize
     }
 
-    /// The offset of the records of lines, of 8 bytes each. In version 1 the object ends there.
+    /// The offset of the records of lines. In version 1 the object ends there.
     pub fn lines_at(&self) -> usize
         ensures within { result < 2 ^ 46 }
         ensures offset { result ≡ lines_at self.now }
@@ -133,7 +136,7 @@ fn read_count(bytes: &[u8], at: usize, greatest: u32) -> Result<u32, ObjectFault
         (n ≡ u32_there bytes.now at) × (n ≤ greatest) × (at + 4 ≤ length bytes.now)) }
     ensures fault { TellsFault (count_fault bytes.now at greatest) result }
 {
-    if bytes.len() < at + 4 {
+    if bytes.len() < at + COUNT_LEN {
         return Err(ObjectFault::Cut(bytes.len()));
     }
     let count = u32_at(bytes, at);
@@ -143,28 +146,28 @@ fn read_count(bytes: &[u8], at: usize, greatest: u32) -> Result<u32, ObjectFault
     Ok(count)
 }
 
-// The magic and the version.
+// The version, or the first fault of it and of the magic, which ends where the version begins.
 fn read_version(bytes: &[u8]) -> Result<u16, ObjectFault>
     ensures version { IfOk result (λ v. (v ≡ u16_there bytes.now 8) × (is_version v ≡ true)) }
     ensures fault { TellsFault (or_else (magic_fault bytes.now) (version_fault bytes.now)) result }
 {
-    if bytes.len() < 8 {
+    if bytes.len() < offsets::VERSION {
         return Err(ObjectFault::Cut(bytes.len()));
     }
-    if !bytes.starts_with(b"ALMA0OBJ") {
+    if !bytes.starts_with(MAGIC) {
         return Err(ObjectFault::Magic);
     }
-    if bytes.len() < 10 {
+    if bytes.len() < offsets::ROUTINE_COUNT {
         return Err(ObjectFault::Cut(bytes.len()));
     }
-    let version = u16_at(bytes, 8);
+    let version = u16_at(bytes, offsets::VERSION);
     if version != FIRST_VERSION && version != LATEST_VERSION {
         return Err(ObjectFault::Version(version));
     }
     Ok(version)
 }
 
-// The counts.
+// The header of a version, with its counts; the version was read before.
 #[tactic(auto, unfolding(crate::specs::Header::counts_fault))]
 fn read_counts(bytes: &[u8], version: u16) -> Result<Header, ObjectFault>
     requires version { version ≡ u16_there bytes.now 8 }
@@ -173,23 +176,23 @@ fn read_counts(bytes: &[u8], version: u16) -> Result<Header, ObjectFault>
         (h ≡ header_of bytes.now) × IsWithin h × (routines_at h ≤ length bytes.now)) }
     ensures fault { TellsFault (counts_fault bytes.now) result }
 {
-    let routines = read_count(bytes, 10, ROUTINE_LIMIT)?;
+    let routines = read_count(bytes, offsets::ROUTINE_COUNT, ROUTINE_LIMIT)?;
     if routines == 0 {
-        return Err(ObjectFault::BadCount(10));
+        return Err(ObjectFault::BadCount(offsets::ROUTINE_COUNT));
     }
-    let globals = read_count(bytes, 14, RECORD_LIMIT)?;
-    let params = read_count(bytes, 18, RECORD_LIMIT)?;
-    let runs = read_count(bytes, 22, SLOT_LIMIT)?;
-    let ranges = read_count(bytes, 26, RECORD_LIMIT)?;
-    let texts = read_count(bytes, 30, RECORD_LIMIT)?;
-    let name_bytes = read_count(bytes, 34, POOL_LIMIT)?;
-    let text_bytes = read_count(bytes, 38, POOL_LIMIT)?;
+    let globals = read_count(bytes, offsets::GLOBAL_COUNT, RECORD_LIMIT)?;
+    let params = read_count(bytes, offsets::PARAM_COUNT, RECORD_LIMIT)?;
+    let runs = read_count(bytes, offsets::RUN_COUNT, SLOT_LIMIT)?;
+    let ranges = read_count(bytes, offsets::RANGE_COUNT, RECORD_LIMIT)?;
+    let texts = read_count(bytes, offsets::TEXT_COUNT, RECORD_LIMIT)?;
+    let name_bytes = read_count(bytes, offsets::NAME_BYTE_COUNT, POOL_LIMIT)?;
+    let text_bytes = read_count(bytes, offsets::TEXT_BYTE_COUNT, POOL_LIMIT)?;
     if texts == 0 && text_bytes > 0 {
-        return Err(ObjectFault::BadCount(38));
+        return Err(ObjectFault::BadCount(offsets::TEXT_BYTE_COUNT));
     }
-    let instrs = read_count(bytes, 42, INSTR_LIMIT)?;
+    let instrs = read_count(bytes, offsets::INSTR_COUNT, INSTR_LIMIT)?;
     let lines = if version == LATEST_VERSION {
-        read_count(bytes, 46, RECORD_LIMIT)?
+        read_count(bytes, offsets::LINE_COUNT, RECORD_LIMIT)?
     } else {
         0
     };

@@ -5,7 +5,7 @@ ghost use Rattle.alma_object_format.specs.Instrs.{const_bytes, instr_bytes, is_i
 ghost use Rattle.alma_object_format.specs.Lengths.{instr_len};
 
 use crate::bytes::{i64_at, push_i64, push_words, u32_at};
-use crate::opcode;
+use crate::{offsets, opcode};
 use alma_base::NoMemory;
 use alma_code::{Instr, LATEST_VERSION};
 
@@ -164,10 +164,10 @@ pub fn is_instr(version: u16, bytes: &[u8], at: usize) -> bool
     if opcode < 1 || opcode > last_opcode(version) {
         return false;
     }
-    let a = u32_at(bytes, at + 1);
-    let b = u32_at(bytes, at + 5);
-    let c = u32_at(bytes, at + 9);
-    let d = u32_at(bytes, at + 13);
+    let a = u32_at(bytes, at + offsets::WORD_A);
+    let b = u32_at(bytes, at + offsets::WORD_B);
+    let c = u32_at(bytes, at + offsets::WORD_C);
+    let d = u32_at(bytes, at + offsets::WORD_D);
     match USED_WORDS[usize::from(opcode) - 1] {
         0 => a == 0 && b == 0 && c == 0 && d == 0,
         1 => b == 0 && c == 0 && d == 0,
@@ -177,7 +177,8 @@ pub fn is_instr(version: u16, bytes: &[u8], at: usize) -> bool
     }
 }
 
-/// The instruction whose record stands at an offset.
+/// The instruction whose record stands at an offset, or Fail where it has no opcode of a form. The
+/// forms stand in five groups, by their opcodes, each with a reader of its own.
 #[inline(always)]
 #[tactic(auto, unfolding(crate::specs::Instrs::instr_at))]
 pub fn instr_at(bytes: &[u8], at: usize) -> Instr
@@ -194,7 +195,7 @@ pub fn instr_at(bytes: &[u8], at: usize) -> Instr
     }
 }
 
-// The instruction of numbers at an offset.
+// The instruction at an offset, of a form on numbers: `CONST` to `IN_RANGE`.
 #[inline(always)]
 #[tactic(auto, unfolding(crate::specs::Instrs::instr_at))]
 fn number_instr(bytes: &[u8], at: usize) -> Instr
@@ -203,13 +204,13 @@ fn number_instr(bytes: &[u8], at: usize) -> Instr
     requires last { slice_index bytes.now at ≤ 13 }
     ensures { result ≡ instr_there bytes.now at }
 {
-    let to = u32_at(bytes, at + 1);
-    let left = u32_at(bytes, at + 5);
-    let right = u32_at(bytes, at + 9);
+    let to = u32_at(bytes, at + offsets::WORD_A);
+    let left = u32_at(bytes, at + offsets::WORD_B);
+    let right = u32_at(bytes, at + offsets::WORD_C);
     match bytes[at] {
         opcode::CONST => Instr::Const {
             to,
-            value: i64_at(bytes, at + 5),
+            value: i64_at(bytes, at + offsets::WORD_B),
         },
         opcode::MOVE => Instr::Move { to, from: left },
         opcode::ADD => Instr::Add { to, left, right },
@@ -230,7 +231,7 @@ fn number_instr(bytes: &[u8], at: usize) -> Instr
     }
 }
 
-// The instruction of places at an offset.
+// The instruction at an offset, of a form on places: `LOCAL` to `SAME_CELLS`.
 #[inline(always)]
 #[tactic(auto, unfolding(crate::specs::Instrs::instr_at))]
 fn place_instr(bytes: &[u8], at: usize) -> Instr
@@ -239,10 +240,10 @@ fn place_instr(bytes: &[u8], at: usize) -> Instr
     requires last { slice_index bytes.now at ≤ 25 }
     ensures { result ≡ instr_there bytes.now at }
 {
-    let a = u32_at(bytes, at + 1);
-    let b = u32_at(bytes, at + 5);
-    let c = u32_at(bytes, at + 9);
-    let d = u32_at(bytes, at + 13);
+    let a = u32_at(bytes, at + offsets::WORD_A);
+    let b = u32_at(bytes, at + offsets::WORD_B);
+    let c = u32_at(bytes, at + offsets::WORD_C);
+    let d = u32_at(bytes, at + offsets::WORD_D);
     match bytes[at] {
         opcode::LOCAL => Instr::Local { to: a, first: b },
         opcode::GLOBAL => Instr::Global { to: a, first: b },
@@ -278,7 +279,7 @@ fn place_instr(bytes: &[u8], at: usize) -> Instr
     }
 }
 
-// The instruction of control and choices at an offset.
+// The instruction at an offset, of a form of control and choices: `JUMP` to `FINISH`.
 #[inline(always)]
 #[tactic(auto, unfolding(crate::specs::Instrs::instr_at))]
 fn control_instr(bytes: &[u8], at: usize) -> Instr
@@ -287,8 +288,8 @@ fn control_instr(bytes: &[u8], at: usize) -> Instr
     requires last { slice_index bytes.now at ≤ 36 }
     ensures { result ≡ instr_there bytes.now at }
 {
-    let a = u32_at(bytes, at + 1);
-    let b = u32_at(bytes, at + 5);
+    let a = u32_at(bytes, at + offsets::WORD_A);
+    let b = u32_at(bytes, at + offsets::WORD_B);
     match bytes[at] {
         opcode::JUMP => Instr::Jump { to: a },
         opcode::JUMP_ZERO => Instr::JumpZero { value: a, to: b },
@@ -305,7 +306,7 @@ fn control_instr(bytes: &[u8], at: usize) -> Instr
     }
 }
 
-// The instruction of calls, input, output and loops at an offset.
+// The instruction at an offset, of a form of calls, input, output and loops: `CALL` to `STEP`.
 #[inline(always)]
 #[tactic(auto, unfolding(crate::specs::Instrs::instr_at))]
 fn call_instr(bytes: &[u8], at: usize) -> Instr
@@ -314,10 +315,10 @@ fn call_instr(bytes: &[u8], at: usize) -> Instr
     requires last { slice_index bytes.now at ≤ 48 }
     ensures { result ≡ instr_there bytes.now at }
 {
-    let a = u32_at(bytes, at + 1);
-    let b = u32_at(bytes, at + 5);
-    let c = u32_at(bytes, at + 9);
-    let d = u32_at(bytes, at + 13);
+    let a = u32_at(bytes, at + offsets::WORD_A);
+    let b = u32_at(bytes, at + offsets::WORD_B);
+    let c = u32_at(bytes, at + offsets::WORD_C);
+    let d = u32_at(bytes, at + offsets::WORD_D);
     match bytes[at] {
         opcode::CALL => Instr::Call {
             routine: a,
@@ -344,7 +345,7 @@ fn call_instr(bytes: &[u8], at: usize) -> Instr
     }
 }
 
-// The instruction of links at an offset.
+// The instruction at an offset, of a form on links: `OWN` to `OUTER_SAME`.
 #[inline(always)]
 #[tactic(auto, unfolding(crate::specs::Instrs::instr_at))]
 fn link_instr(bytes: &[u8], at: usize) -> Instr
@@ -353,9 +354,9 @@ fn link_instr(bytes: &[u8], at: usize) -> Instr
     requires last { slice_index bytes.now at ≤ 52 }
     ensures { result ≡ instr_there bytes.now at }
 {
-    let a = u32_at(bytes, at + 1);
-    let b = u32_at(bytes, at + 5);
-    let c = u32_at(bytes, at + 9);
+    let a = u32_at(bytes, at + offsets::WORD_A);
+    let b = u32_at(bytes, at + offsets::WORD_B);
+    let c = u32_at(bytes, at + offsets::WORD_C);
     match bytes[at] {
         opcode::OWN => Instr::Own { to: a },
         opcode::CHAIN => Instr::Chain {

@@ -6,6 +6,9 @@ pub const HEADER_LEN: usize = 50;
 /// The bytes of the header of the first version, which has no count of lines.
 pub const FIRST_HEADER_LEN: usize = 46;
 
+/// The bytes of each count of the header.
+pub const COUNT_LEN: usize = 4;
+
 /// The bytes of the record of a routine: the ends of its name, params, runs and code, its slots and
 /// declared cells, and whether it has a result.
 pub const ROUTINE_LEN: usize = 28;

@@ -5,14 +5,16 @@ mod bytes;
 mod fault;
 mod header;
 mod instr;
+pub mod kinds;
 mod lengths;
+pub mod offsets;
 pub mod opcode;
 mod record;
 mod walk;
 
 pub use bytes::{i64_at, push_i64, push_words, u32_at};
 pub use fault::ObjectFault;
-pub use header::{Header, read_header};
+pub use header::{Header, MAGIC, read_header};
 pub use instr::{instr_at, push_instr};
 pub use lengths::{GLOBAL_LEN, INSTR_LEN, LINE_LEN, PARAM_LEN, RANGE_LEN, ROUTINE_LEN, RUN_LEN};
 pub use record::{line_in, param_in, range_in, run_in};

@@ -1,4 +1,5 @@
-//! The opcodes, each by the name of its form. The forms behind `STEP` are of the latest version alone.
+//! The opcodes, each by the name of its form. The forms behind `STEP` are of the latest version
+//! alone.
 
 pub const CONST: u8 = 1;
 

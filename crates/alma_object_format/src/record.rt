@@ -4,6 +4,7 @@ ghost use Rattle.alma_object_format.specs.Lengths.{param_len, run_len, range_len
 ghost use Rattle.alma_object_format.specs.Reading.{param_kind as param_kind_of, slot_kind as slot_kind_of, param_in as param_there, run_in as run_there, range_in as range_there, line_in as line_there};
 
 use crate::bytes::{i64_at, u32_at};
+use crate::{kinds, offsets};
 use alma_base::Range;
 use alma_code::{CodeParam, Line, ParamKind, Run, SlotKind};
 
@@ -13,10 +14,10 @@ fn param_kind(number: u32) -> ParamKind
     ensures { result ≡ param_kind_of number }
 {
     match number {
-        0 => ParamKind::Value,
-        1 => ParamKind::Place,
-        2 => ParamKind::Mix,
-        3 => ParamKind::Cells,
+        kinds::PARAM_VALUE => ParamKind::Value,
+        kinds::PARAM_PLACE => ParamKind::Place,
+        kinds::PARAM_MIX => ParamKind::Mix,
+        kinds::PARAM_CELLS => ParamKind::Cells,
         _ => ParamKind::Link,
     }
 }
@@ -27,9 +28,9 @@ fn slot_kind(number: u32, size: u32) -> SlotKind
     ensures { result ≡ slot_kind_of number size }
 {
     match number {
-        0 => SlotKind::Number,
-        1 => SlotKind::Place(size),
-        2 => SlotKind::Mark,
+        kinds::RUN_NUMBER => SlotKind::Number,
+        kinds::RUN_PLACE => SlotKind::Place(size),
+        kinds::RUN_MARK => SlotKind::Mark,
         _ => SlotKind::Link(size),
     }
 }
@@ -42,7 +43,7 @@ pub fn param_in(bytes: &[u8], at: usize) -> CodeParam
 {
     CodeParam {
         kind: param_kind(u32_at(bytes, at)),
-        cells: u32_at(bytes, at + 4),
+        cells: u32_at(bytes, at + offsets::PARAM_CELLS),
     }
 }
 
@@ -53,8 +54,8 @@ pub fn run_in(bytes: &[u8], at: usize) -> Run
     ensures { result ≡ run_there bytes.now at }
 {
     Run {
-        kind: slot_kind(u32_at(bytes, at), u32_at(bytes, at + 4)),
-        end: u32_at(bytes, at + 8),
+        kind: slot_kind(u32_at(bytes, at), u32_at(bytes, at + offsets::RUN_SIZE)),
+        end: u32_at(bytes, at + offsets::RUN_END),
     }
 }
 
@@ -66,7 +67,7 @@ pub fn range_in(bytes: &[u8], at: usize) -> Range
 {
     Range {
         low: i64_at(bytes, at),
-        high: i64_at(bytes, at + 8),
+        high: i64_at(bytes, at + offsets::RANGE_HIGH),
     }
 }
 
@@ -78,6 +79,6 @@ pub fn line_in(bytes: &[u8], at: usize) -> Line
 {
     Line {
         at: u32_at(bytes, at),
-        line: u32_at(bytes, at + 4),
+        line: u32_at(bytes, at + offsets::LINE_NUMBER),
     }
 }

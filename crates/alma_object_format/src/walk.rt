@@ -12,6 +12,7 @@ use crate::instr::is_instr;
 use crate::lengths::{
     GLOBAL_LEN, INSTR_LEN, LINE_LEN, PARAM_LEN, RANGE_LEN, ROUTINE_LEN, RUN_LEN, TEXT_END_LEN,
 };
+use crate::{kinds, offsets};
 use alma_code::LATEST_VERSION;
 
 // ---- ends
@@ -24,7 +25,7 @@ pub fn params_end(bytes: &[u8], header: &Header, routine: u32) -> u32
 {
     u32_at(
         bytes,
-        header.routines_at() + ROUTINE_LEN * routine as usize + 4,
+        header.routines_at() + ROUTINE_LEN * routine as usize + offsets::ROUTINE_PARAMS_END,
     )
 }
 
@@ -36,7 +37,7 @@ pub fn runs_end(bytes: &[u8], header: &Header, routine: u32) -> u32
 {
     u32_at(
         bytes,
-        header.routines_at() + ROUTINE_LEN * routine as usize + 8,
+        header.routines_at() + ROUTINE_LEN * routine as usize + offsets::ROUTINE_RUNS_END,
     )
 }
 
@@ -48,7 +49,7 @@ pub fn code_end(bytes: &[u8], header: &Header, routine: u32) -> u32
 {
     u32_at(
         bytes,
-        header.routines_at() + ROUTINE_LEN * routine as usize + 12,
+        header.routines_at() + ROUTINE_LEN * routine as usize + offsets::ROUTINE_CODE_END,
     )
 }
 
@@ -194,7 +195,7 @@ fn routine_fault(bytes: &[u8], header: &Header, routine: u32) -> Option<ObjectFa
         header.params,
         last,
     ) {
-        return Some(ObjectFault::BadCount(at + 4));
+        return Some(ObjectFault::BadCount(at + offsets::ROUTINE_PARAMS_END));
     }
     if !is_end(
         runs_start(bytes, header, routine),
@@ -202,7 +203,7 @@ fn routine_fault(bytes: &[u8], header: &Header, routine: u32) -> Option<ObjectFa
         header.runs,
         last,
     ) {
-        return Some(ObjectFault::BadCount(at + 8));
+        return Some(ObjectFault::BadCount(at + offsets::ROUTINE_RUNS_END));
     }
     if !is_end(
         code_start(bytes, header, routine),
@@ -210,10 +211,10 @@ fn routine_fault(bytes: &[u8], header: &Header, routine: u32) -> Option<ObjectFa
         header.instrs,
         last,
     ) {
-        return Some(ObjectFault::BadCount(at + 12));
+        return Some(ObjectFault::BadCount(at + offsets::ROUTINE_CODE_END));
     }
-    if u32_at(bytes, at + 24) > 1 {
-        return Some(ObjectFault::BadCount(at + 24));
+    if u32_at(bytes, at + offsets::ROUTINE_RESULT) > 1 {
+        return Some(ObjectFault::BadCount(at + offsets::ROUTINE_RESULT));
     }
     None
 }
@@ -284,14 +285,18 @@ fn globals_fault(bytes: &[u8], header: &Header) -> Option<ObjectFault>
 fn has_one_cell(kind: u32) -> bool
     ensures { result ≡ has_one_cell_of kind }
 {
-    kind == 0 || kind == 2
+    kind == kinds::PARAM_VALUE || kind == kinds::PARAM_MIX
 }
 
 // The last kind of a param, of a version.
 fn last_param_kind(version: u16) -> u32
     ensures { result ≡ last_param_kind version }
 {
-    if version == LATEST_VERSION { 4 } else { 3 }
+    if version == LATEST_VERSION {
+        kinds::PARAM_LINK
+    } else {
+        kinds::PARAM_CELLS
+    }
 }
 
 // The first fault of the record of a param.
@@ -309,8 +314,8 @@ fn param_fault(bytes: &[u8], header: &Header, param: u32) -> Option<ObjectFault>
     if kind > last_param_kind(header.version) {
         return Some(ObjectFault::BadCount(at));
     }
-    if has_one_cell(kind) && u32_at(bytes, at + 4) != 1 {
-        return Some(ObjectFault::BadCount(at + 4));
+    if has_one_cell(kind) && u32_at(bytes, at + offsets::PARAM_CELLS) != 1 {
+        return Some(ObjectFault::BadCount(at + offsets::PARAM_CELLS));
     }
     None
 }
@@ -336,14 +341,18 @@ fn params_fault(bytes: &[u8], header: &Header) -> Option<ObjectFault>
 fn has_length(kind: u32) -> bool
     ensures { result ≡ has_length_of kind }
 {
-    kind == 1 || kind == 3
+    kind == kinds::RUN_PLACE || kind == kinds::RUN_LINK
 }
 
 // The last kind of a run, of a version.
 fn last_run_kind(version: u16) -> u32
     ensures { result ≡ last_run_kind version }
 {
-    if version == LATEST_VERSION { 3 } else { 2 }
+    if version == LATEST_VERSION {
+        kinds::RUN_LINK
+    } else {
+        kinds::RUN_MARK
+    }
 }
 
 // The first fault of the record of a run.
@@ -361,16 +370,23 @@ fn run_fault(bytes: &[u8], header: &Header, first: bool, run: u32) -> Option<Obj
     if kind > last_run_kind(header.version) {
         return Some(ObjectFault::BadCount(at));
     }
-    let len = u32_at(bytes, at + 4);
+    let len = u32_at(bytes, at + offsets::RUN_SIZE);
     if !has_length(kind) && len != 0 {
-        return Some(ObjectFault::BadCount(at + 4));
+        return Some(ObjectFault::BadCount(at + offsets::RUN_SIZE));
     }
-    if !first && u32_at(bytes, at - RUN_LEN) == kind && u32_at(bytes, at - 8) == len {
-        return Some(ObjectFault::BadCount(at + 4));
+    if !first
+        && u32_at(bytes, at - RUN_LEN) == kind
+        && u32_at(bytes, at - offsets::RUN_SIZE_BEFORE) == len
+    {
+        return Some(ObjectFault::BadCount(at + offsets::RUN_SIZE));
     }
-    let begin = if first { 0 } else { u32_at(bytes, at - 4) };
-    if u32_at(bytes, at + 8) <= begin {
-        return Some(ObjectFault::BadCount(at + 8));
+    let begin = if first {
+        0
+    } else {
+        u32_at(bytes, at - offsets::RUN_END_BEFORE)
+    };
+    if u32_at(bytes, at + offsets::RUN_END) <= begin {
+        return Some(ObjectFault::BadCount(at + offsets::RUN_END));
     }
     None
 }
@@ -426,8 +442,8 @@ fn range_fault(bytes: &[u8], header: &Header, range: u32) -> Option<ObjectFault>
     if bytes.len() < at + RANGE_LEN {
         return Some(ObjectFault::Cut(bytes.len()));
     }
-    if i64_at(bytes, at) > i64_at(bytes, at + 8) {
-        return Some(ObjectFault::BadCount(at + 8));
+    if i64_at(bytes, at) > i64_at(bytes, at + offsets::RANGE_HIGH) {
+        return Some(ObjectFault::BadCount(at + offsets::RANGE_HIGH));
     }
     None
 }

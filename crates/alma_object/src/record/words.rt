@@ -4,7 +4,7 @@ ghost use Rattle.alma_object_format.specs.Lengths.{instr_len};
 ghost use Rattle.alma_object.specs.View.{opcode_of_record, word_of_record, value_of_record};
 
 use crate::record::InstrRecord;
-use alma_object_format::{i64_at, u32_at};
+use alma_object_format::{i64_at, offsets, u32_at};
 
 impl<'b> InstrRecord<'b> {
     /// The record in the bytes at an offset.
@@ -30,7 +30,7 @@ impl<'b> InstrRecord<'b> {
     pub fn first(&self) -> u32
         ensures { result ≡ word_of_record self.now 1 }
     {
-        u32_at(self.bytes, self.at + 1)
+        u32_at(self.bytes, self.at + offsets::WORD_A)
     }
 
     /// The second word.
@@ -38,7 +38,7 @@ impl<'b> InstrRecord<'b> {
     pub fn second(&self) -> u32
         ensures { result ≡ word_of_record self.now 5 }
     {
-        u32_at(self.bytes, self.at + 5)
+        u32_at(self.bytes, self.at + offsets::WORD_B)
     }
 
     /// The third word.
@@ -46,7 +46,7 @@ impl<'b> InstrRecord<'b> {
     pub fn third(&self) -> u32
         ensures { result ≡ word_of_record self.now 9 }
     {
-        u32_at(self.bytes, self.at + 9)
+        u32_at(self.bytes, self.at + offsets::WORD_C)
     }
 
     /// The fourth word.
@@ -54,7 +54,7 @@ impl<'b> InstrRecord<'b> {
     pub fn fourth(&self) -> u32
         ensures { result ≡ word_of_record self.now 13 }
     {
-        u32_at(self.bytes, self.at + 13)
+        u32_at(self.bytes, self.at + offsets::WORD_D)
     }
 
     /// The value of a Const, which stands in the second and third word.
@@ -62,6 +62,6 @@ impl<'b> InstrRecord<'b> {
     pub fn value(&self) -> i64
         ensures { result ≡ value_of_record self.now }
     {
-        i64_at(self.bytes, self.at + 5)
+        i64_at(self.bytes, self.at + offsets::WORD_B)
     }
 }

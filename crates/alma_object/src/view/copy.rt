@@ -11,6 +11,7 @@ use alma_code::{Code, CodeGlobal, CodeParam, Head, Instr, Line, RoutineHead, Run
 use alma_object_format::{LINE_LEN, RANGE_LEN, line_in, range_in};
 use std::alloc::Global;
 
+// The params of a routine.
 #[tactic(auto, using(crate::proofs::Items::take_steps))]
 fn copy_params(alloc: Global, routine: &RoutineView<'_>) -> Result<Vec<CodeParam>, NoMemory>
     ensures params { IfOk result (λ params. params.items ≡ (head_of_view routine.now).params) }
@@ -23,6 +24,7 @@ fn copy_params(alloc: Global, routine: &RoutineView<'_>) -> Result<Vec<CodeParam
     Ok(params)
 }
 
+// The runs of a routine.
 #[tactic(auto, using(crate::proofs::Items::take_steps))]
 fn copy_runs(alloc: Global, routine: &RoutineView<'_>) -> Result<Vec<Run>, NoMemory>
     ensures runs { IfOk result (λ runs. runs.items ≡ (head_of_view routine.now).runs) }
@@ -35,6 +37,7 @@ fn copy_runs(alloc: Global, routine: &RoutineView<'_>) -> Result<Vec<Run>, NoMem
     Ok(runs)
 }
 
+// A routine, with its name, params and runs.
 fn copy_routine(alloc: Global, routine: &RoutineView<'_>) -> Result<RoutineHead, NoMemory>
     ensures { IfOk result (λ head. routine_of head ≡ routine_of_view routine.now) }
 {
@@ -52,6 +55,7 @@ fn copy_routine(alloc: Global, routine: &RoutineView<'_>) -> Result<RoutineHead,
     })
 }
 
+// A global, with its name.
 fn copy_global(alloc: Global, global: &GlobalView<'_>) -> Result<CodeGlobal, NoMemory>
     ensures { IfOk result (λ copy. global_of copy ≡ global_of_view global.now) }
 {

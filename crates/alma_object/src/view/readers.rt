@@ -16,8 +16,9 @@ use alma_base::Range;
 use alma_code::{Instr, Line};
 use alma_object_format::{
     GLOBAL_LEN, INSTR_LEN, LINE_LEN, ObjectFault, PARAM_LEN, RANGE_LEN, ROUTINE_LEN, RUN_LEN,
-    code_end, code_start, instr_at, line_in, name_end, name_start, params_end, params_start,
-    range_in, read_header, runs_end, runs_start, sections_fault, text_end, text_start, u32_at,
+    code_end, code_start, instr_at, line_in, name_end, name_start, offsets, params_end,
+    params_start, range_in, read_header, runs_end, runs_start, sections_fault, text_end,
+    text_start, u32_at,
 };
 
 /// A global of an object. It lends its name.
@@ -28,6 +29,7 @@ pub struct GlobalView<'b> {
     pub cells: u32,
 }
 
+// Whether an instruction is a ReadInt or a ReadChar.
 fn is_read(instr: Instr) -> bool
     ensures { result ≡ is_read_of instr }
 {
@@ -133,7 +135,7 @@ impl<'b> ObjectView<'b> {
         &self.bytes[start..end]
     }
 
-    // A name of routines and globals.
+    // The name with a number, counted through the routines and then the globals.
     #[tactic(auto, unfolding(alma_object_format::specs::Reading::name_in))]
     fn name(&self, name: u32) -> &'b [u8]
         requires { name < self.now.header.routines + self.now.header.globals }
@@ -145,7 +147,7 @@ impl<'b> ObjectView<'b> {
         self.part(at + start as usize, at + end as usize)
     }
 
-    // A routine below their count.
+    // The routine with a number below their count.
     #[tactic(auto, unfolding(alma_object_format::specs::Reading::routine_in), using(crate::proofs::Items::item_steps))]
     pub(crate) fn routine_view(&self, i: u32) -> RoutineView<'b>
         requires { i < self.now.header.routines }
@@ -162,15 +164,15 @@ impl<'b> ObjectView<'b> {
             param_count: params_end(self.bytes, &self.header, i) - params,
             runs_at: self.header.runs_at() + RUN_LEN * runs as usize,
             run_count: runs_end(self.bytes, &self.header, i) - runs,
-            slots: u32_at(self.bytes, at + 16),
-            declared: u32_at(self.bytes, at + 20),
-            result: u32_at(self.bytes, at + 24) == 1,
+            slots: u32_at(self.bytes, at + offsets::ROUTINE_SLOTS),
+            declared: u32_at(self.bytes, at + offsets::ROUTINE_DECLARED),
+            result: u32_at(self.bytes, at + offsets::ROUTINE_RESULT) == 1,
             code_start: code_start(self.bytes, &self.header, i),
             code_end: code_end(self.bytes, &self.header, i),
         }
     }
 
-    /// A routine, which lends its name and its records.
+    /// The routine with a number, which lends its name and its records; None past the last.
     #[tactic(auto, using(crate::proofs::Items::item_steps))]
     pub fn routine(&self, i: u32) -> Option<RoutineView<'b>>
         ensures routine { option_map routine_of_view result ≡ slice_get
@@ -185,7 +187,7 @@ impl<'b> ObjectView<'b> {
         }
     }
 
-    // A global below their count.
+    // The global with a number below their count.
     #[tactic(auto, unfolding(alma_object_format::specs::Reading::global_in))]
     pub(crate) fn global_view(&self, i: u32) -> GlobalView<'b>
         requires { i < self.now.header.globals }
@@ -194,12 +196,12 @@ impl<'b> ObjectView<'b> {
         let at = self.header.globals_at() + GLOBAL_LEN * i as usize;
         GlobalView {
             name: self.name(self.header.routines + i),
-            slot: u32_at(self.bytes, at + 4),
-            cells: u32_at(self.bytes, at + 8),
+            slot: u32_at(self.bytes, at + offsets::GLOBAL_SLOT),
+            cells: u32_at(self.bytes, at + offsets::GLOBAL_CELLS),
         }
     }
 
-    /// A global, which lends its name.
+    /// The global with a number, which lends its name; None past the last.
     #[tactic(auto, using(crate::proofs::Items::item_steps))]
     pub fn global(&self, i: u32) -> Option<GlobalView<'b>>
         ensures { option_map global_of_view result ≡ slice_get (code_of_view self.now).globals i }
@@ -211,7 +213,7 @@ impl<'b> ObjectView<'b> {
         }
     }
 
-    // The bytes of a text below their count.
+    // The bytes of the text with a number below their count.
     #[tactic(auto, unfolding(alma_object_format::specs::Reading::text_in))]
     pub(crate) fn text_view(&self, i: u32) -> &'b [u8]
         requires { i < self.now.header.texts }
@@ -223,7 +225,7 @@ impl<'b> ObjectView<'b> {
         self.part(at + start as usize, at + end as usize)
     }
 
-    /// The bytes of a text.
+    /// The bytes of the text with a number; None past the last.
     #[tactic(auto, using(crate::proofs::Items::item_steps))]
     pub fn text(&self, i: u32) -> Option<&'b [u8]>
         ensures { option_map (λ text. text.now) result ≡ slice_get (code_of_view self.now).texts i }
