@@ -18,6 +18,7 @@ pub record PhraseMarks : Type 0 where
 abbrev pub Step : Type 0
 Step = ℕ → PhraseMarks
 
+-- no token and no mark
 abbrev pub stay : Step
 stay at = record { marks = []; end = at }
 
@@ -25,6 +26,7 @@ stay at = record { marks = []; end = at }
 abbrev pub token : Step
 token at = record { marks = []; end = suc at }
 
+-- the marks of one phrase, and those of a step behind it
 abbrev pub step_on : PhraseMarks → Step → PhraseMarks
 step_on a f = record { marks = a.marks ++ (f a.end).marks; end = (f a.end).end }
 
@@ -37,13 +39,15 @@ abbrev pub ◌>>◌ : Step → Step → Step
 abbrev pub marked_node : ℕ → ℕ → PhraseMarks → PhraseMarks
 marked_node n at m = record { marks = m.marks ++ node_at n at ∷ []; end = m.end }
 
+-- the same, of the step over the parts
 abbrev pub whole : ℕ → Step → Step
 whole n f at = marked_node n at (f at)
 
--- a statement that begins here, and one that begins at a token
+-- a statement that begins here
 abbrev pub statement : Step
 statement at = record { marks = stmt_at at ∷ []; end = at }
 
+-- a statement that begins at a token
 abbrev pub statement_of : ℕ → Step
 statement_of t at = record { marks = stmt_at t ∷ []; end = at }
 
@@ -51,21 +55,26 @@ statement_of t at = record { marks = stmt_at t ∷ []; end = at }
 abbrev pub from_here : (ℕ → Step) → Step
 from_here f at = f at at
 
+-- a name
 abbrev pub mark_name : tree.Name → Step
 mark_name name = whole name.node token
 
+-- a sign, if there is one
 abbrev pub mark_sign : Option Sign → Step
 mark_sign None = stay
 mark_sign (Some s) = token
 
+-- a mode, if there is one
 abbrev pub mark_mode : Option Mode → Step
 mark_mode None = stay
 mark_mode (Some m) = token
 
+-- the first step, if there is one, and else the other
 abbrev pub first_step : Option Step → Step → Step
 first_step None g = g
 first_step (Some f) g = f
 
+-- the step over a list of statements that is one expression, if it is one
 abbrev pub only_step : ℕ → tree.StmtTail → Option Step → Option Step
 only_step m tree.no_stmt None = None
 only_step m tree.no_stmt (Some f) = Some (whole m f)
@@ -229,10 +238,12 @@ unfoldable mutual
 
 -- ---- names and types
 
+-- further names
 abbrev pub mark_more_names : List tree.Name → Step
 mark_more_names [] = stay
 mark_more_names (x ∷ xs) = token >> mark_name x >> mark_more_names xs
 
+-- a list of names
 abbrev pub mark_names : tree.Names → Step
 mark_names x = whole x.node (mark_name x.first >> mark_more_names x.more)
 
@@ -271,37 +282,46 @@ unfoldable mutual
 
 -- ---- declarations and the module
 
+-- the entries of CONST
 abbrev pub mark_consts : List tree.ConstEntry → Step
 mark_consts [] = stay
 mark_consts (x ∷ xs) = mark_name x.name >> token >> mark_expr x.value >> token >> mark_consts xs
 
+-- the entries of TYPE
 abbrev pub mark_type_entries : List tree.TypeEntry → Step
 mark_type_entries [] = stay
 mark_type_entries (x ∷ xs) = mark_name x.name >> token >> mark_type x.type_node >> token >> mark_type_entries xs
 
+-- the entries of VAR
 abbrev pub mark_vars : List tree.VarEntry → Step
 mark_vars [] = stay
 mark_vars (x ∷ xs) = mark_names x.names >> token >> mark_type x.type_node >> token >> mark_vars xs
 
+-- a Formal
 abbrev pub mark_formal : tree.Formal → Step
 mark_formal x = whole x.node (mark_mode x.mode >> mark_names x.names >> token >> mark_name x.type_name)
 
+-- further Formals
 abbrev pub mark_more_formals : List tree.Formal → Step
 mark_more_formals [] = stay
 mark_more_formals (x ∷ xs) = token >> mark_formal x >> mark_more_formals xs
 
+-- the Formals between parentheses, if there are any
 abbrev pub mark_formals : Option tree.Formals → Step
 mark_formals None = stay
 mark_formals (Some x) = whole x.node (mark_formal x.first >> mark_more_formals x.more)
 
+-- the parameters, if there are parentheses
 abbrev pub mark_params : Option tree.Params → Step
 mark_params None = stay
 mark_params (Some x) = token >> mark_formals x.formals >> token
 
+-- the Name of the result type, if there is one
 abbrev pub mark_result : Option tree.Name → Step
 mark_result None = stay
 mark_result (Some name) = token >> mark_name name
 
+-- the body, if there is one
 abbrev pub mark_body : Option tree.Stmts → Step
 mark_body None = stay
 mark_body (Some body) = token >> mark_stmts body
@@ -322,6 +342,7 @@ unfoldable mutual
       whole n (token >> mark_name name >> mark_params params >> mark_result result >> token >> mark_block b >> token >> mark_name end_name
       >> token)
 
+-- the module
 abbrev pub mark_module : tree.Module → Step
 mark_module m = whole m.node (token >> mark_name m.name >> token >> mark_block m.block >> token >> mark_name m.end_name >> token)
 

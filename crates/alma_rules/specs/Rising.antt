@@ -19,6 +19,7 @@ abbrev pub ◌>>◌ : Rise → Rise → Rise
 abbrev pub node : ℕ → Rise → Rise
 node n f lo hi = f lo n × (n < hi)
 
+-- a name
 abbrev pub rise_name : tree.Name → Rise
 rise_name name = node name.node none
 
@@ -153,10 +154,12 @@ unfoldable mutual
 
 -- ---- names and types
 
+-- further names
 abbrev pub rise_more_names : List tree.Name → Rise
 rise_more_names [] = none
 rise_more_names (x ∷ xs) = rise_name x >> rise_more_names xs
 
+-- a list of names
 abbrev pub rise_names : tree.Names → Rise
 rise_names x = node x.node (rise_name x.first >> rise_more_names x.more)
 
@@ -195,37 +198,46 @@ unfoldable mutual
 
 -- ---- declarations and the module
 
+-- the entries of CONST
 abbrev pub rise_consts : List tree.ConstEntry → Rise
 rise_consts [] = none
 rise_consts (x ∷ xs) = rise_name x.name >> rise_expr x.value >> rise_consts xs
 
+-- the entries of TYPE
 abbrev pub rise_type_entries : List tree.TypeEntry → Rise
 rise_type_entries [] = none
 rise_type_entries (x ∷ xs) = rise_name x.name >> rise_type x.type_node >> rise_type_entries xs
 
+-- the entries of VAR
 abbrev pub rise_vars : List tree.VarEntry → Rise
 rise_vars [] = none
 rise_vars (x ∷ xs) = rise_names x.names >> rise_type x.type_node >> rise_vars xs
 
+-- a Formal
 abbrev pub rise_formal : tree.Formal → Rise
 rise_formal x = node x.node (rise_names x.names >> rise_name x.type_name)
 
+-- further Formals
 abbrev pub rise_more_formals : List tree.Formal → Rise
 rise_more_formals [] = none
 rise_more_formals (x ∷ xs) = rise_formal x >> rise_more_formals xs
 
+-- the Formals between parentheses, if there are any
 abbrev pub rise_formals : Option tree.Formals → Rise
 rise_formals None = none
 rise_formals (Some x) = node x.node (rise_formal x.first >> rise_more_formals x.more)
 
+-- the parameters, if there are parentheses
 abbrev pub rise_params : Option tree.Params → Rise
 rise_params None = none
 rise_params (Some x) = rise_formals x.formals
 
+-- the Name of the result type, if there is one
 abbrev pub rise_result : Option tree.Name → Rise
 rise_result None = none
 rise_result (Some name) = rise_name name
 
+-- the body, if there is one
 abbrev pub rise_body : Option tree.Stmts → Rise
 rise_body None = none
 rise_body (Some body) = rise_stmts body
@@ -245,6 +257,7 @@ unfoldable mutual
   rise_decl (tree.procedure n name params result b end_name) =
       node n (rise_name name >> rise_params params >> rise_result result >> rise_block b >> rise_name end_name)
 
+-- the module
 abbrev pub rise_module : tree.Module → Rise
 rise_module m = node m.node (rise_name m.name >> rise_block m.block >> rise_name m.end_name)
 

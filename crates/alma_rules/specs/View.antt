@@ -37,6 +37,7 @@ use Rattle.alma_tree.specs.declared.module.Formal.{Formal}
 use Rattle.alma_tree.specs.declared.module.Module.{Module}
 use Rattle.alma_rules.specs.Numbered as tree
 
+-- a name
 abbrev pub view_name : Name → tree.Name
 view_name l = record { node = l.node; token = l.token }
 
@@ -172,86 +173,107 @@ abbrev mutual
 
 -- ---- the same of lists, options and structs that stand alone
 
+-- statements behind the first
 abbrev pub stmts_of : List dt.Stmt → tree.StmtTail
 stmts_of [] = tree.no_stmt
 stmts_of (s ∷ rest) = tree.more_stmt (view_stmt s) (stmts_of rest)
 
+-- a list of statements
 abbrev pub view_stmts : ds.Stmts → tree.Stmts
 view_stmts s = tree.stmts s.node (view_stmt s.first.value) (stmts_of s.more.items)
 
+-- the ELSIF parts
 abbrev pub elsifs_of : List df.Elsif → tree.ElsifTail
 elsifs_of [] = tree.no_elsif
 elsifs_of (e ∷ rest) = tree.more_elsif (view_expr (df.out-Elsif e).test) (view_stmts (df.out-Elsif e).then) (elsifs_of rest)
 
+-- the ELSE part, if there is one
 abbrev pub else_of : Option ds.Stmts → tree.Else
 else_of None = tree.no_else
 else_of (Some s) = tree.else_stmts (view_stmts s)
 
+-- the BY part, if there is one
 abbrev pub by_of : Option de.Expr → tree.By
 by_of None = tree.no_by
 by_of (Some e) = tree.by_expr (view_expr e)
 
+-- the ORELSE parts
 abbrev pub orelses_of : List ds.Stmts → tree.OrelseTail
 orelses_of [] = tree.no_orelse
 orelses_of (s ∷ rest) = tree.more_orelse (view_stmts s) (orelses_of rest)
 
+-- the value of RETURN, if there is one
 abbrev pub returned_of : Option de.Expr → tree.Returned
 returned_of None = tree.no_value
 returned_of (Some e) = tree.returned (view_expr e)
 
+-- arms of CASE behind the first
 abbrev pub arms_of : List da.Arm → tree.ArmTail
 arms_of [] = tree.no_arm
 arms_of (a ∷ rest) = tree.more_arm (view_arm a) (arms_of rest)
 
+-- the upper end of a label, if there is one
 abbrev pub high_of : Option de.Expr → tree.High
 high_of None = tree.no_high
 high_of (Some e) = tree.high_expr (view_expr e)
 
+-- labels behind the first
 abbrev pub labels_of : List dl.Label → tree.LabelTail
 labels_of [] = tree.no_label
 labels_of (l ∷ rest) = tree.more_label (view_label l) (labels_of rest)
 
+-- the relation with its right side, if there is one
 abbrev pub compared_of : Option (Box dc.Compared Global) → tree.Compared
 compared_of None = tree.no_relation
 compared_of (Some c) = tree.compared (dc.out-Compared c.value).relation (view_simple (dc.out-Compared c.value).right)
 
+-- operators, each with its term
 abbrev pub terms_of : List dk.AddLink → tree.TermTail
 terms_of [] = tree.no_term
 terms_of (l ∷ rest) = tree.more_term (dk.out-AddLink l).operator (view_term (dk.out-AddLink l).operand) (terms_of rest)
 
+-- operators, each with its factor
 abbrev pub factors_of : List dn.MulLink → tree.FactorTail
 factors_of [] = tree.no_factor
 factors_of (l ∷ rest) = tree.more_factor l.operator (view_factor l.operand) (factors_of rest)
 
+-- the arguments between parentheses, if there are any
 abbrev pub args_values : Option dx.Exprs → tree.Args
 args_values None = tree.empty_args
 args_values (Some es) = tree.args (view_exprs es)
 
+-- the arguments, if there are parentheses
 abbrev pub args_of : Option dg.Args → tree.Args
 args_of None = tree.no_args
 args_of (Some a) = args_values (dg.out-Args a).values
 
+-- expressions behind the first
 abbrev pub exprs_of : List de.Expr → tree.ExprTail
 exprs_of [] = tree.no_expr
 exprs_of (e ∷ rest) = tree.more_expr (view_expr e) (exprs_of rest)
 
+-- the selectors behind a name
 abbrev pub selectors_of : List dj.Selector → tree.SelectorTail
 selectors_of [] = tree.no_selector
 selectors_of (s ∷ rest) = tree.more_selector (view_selector s) (selectors_of rest)
 
+-- a designator
 abbrev pub view_desig : dd.Desig → tree.Desig
 view_desig d = tree.desig d.node (view_name d.name) (selectors_of d.more.items)
 
+-- designators behind the first
 abbrev pub desigs_of : List dd.Desig → tree.DesigTail
 desigs_of [] = tree.no_desig
 desigs_of (d ∷ rest) = tree.more_desig (view_desig d) (desigs_of rest)
 
 -- ---- names and types
 
+-- names behind the first
 abbrev pub names_of : List Name → List tree.Name
 names_of [] = []
 names_of (n ∷ rest) = view_name n ∷ names_of rest
 
+-- a list of names
 abbrev pub view_names : Names → tree.Names
 view_names n = record { node = n.node; first = view_name n.first; more = names_of n.more.items }
 
@@ -287,21 +309,26 @@ abbrev mutual
   view_field_lists dq.end_of-FieldList = tree.no_fields
   view_field_lists (dq.more_of-FieldList f rest) = tree.more_fields (view_field_list f) (view_field_lists rest)
 
+-- plain types behind the first
 abbrev pub plains_of : List dq.PlainType → tree.PlainTail
 plains_of [] = tree.no_plain
 plains_of (p ∷ rest) = tree.more_plain (view_plain_type p) (plains_of rest)
 
+-- field lists behind the first
 abbrev pub field_lists_of : List dw.FieldList → tree.FieldListTail
 field_lists_of [] = tree.no_fields
 field_lists_of (f ∷ rest) = tree.more_fields (view_field_list f) (field_lists_of rest)
 
+-- an ARRAY part of a type
 abbrev pub view_dimension : dv.Dimensions → tree.Dimensions
 view_dimension d = tree.dimensions (view_plain_type d.first) (plains_of d.more.items)
 
+-- ARRAY parts behind the first
 abbrev pub dimensions_of : List dv.Dimensions → tree.DimensionTail
 dimensions_of [] = tree.no_dimensions
 dimensions_of (d ∷ rest) = tree.more_dimensions (view_dimension d) (dimensions_of rest)
 
+-- the ARRAY parts of a type, if there are any
 abbrev pub arrays_of : Option dz.Arrays → tree.Arrays
 arrays_of None = tree.no_arrays
 arrays_of (Some a) = tree.arrays (dz.out-Arrays a).node (view_dimension (dz.out-Arrays a).first)
@@ -309,52 +336,66 @@ arrays_of (Some a) = tree.arrays (dz.out-Arrays a).node (view_dimension (dz.out-
 
 -- ---- declarations and the module
 
+-- an entry of CONST
 abbrev pub view_const : ConstEntry → tree.ConstEntry
 view_const e = record { name = view_name e.name; value = view_expr e.value }
 
+-- the entries of CONST
 abbrev pub consts_of : List ConstEntry → List tree.ConstEntry
 consts_of [] = []
 consts_of (e ∷ rest) = view_const e ∷ consts_of rest
 
+-- an entry of TYPE
 abbrev pub view_type_entry : TypeEntry → tree.TypeEntry
 view_type_entry e = record { name = view_name e.name; type_node = view_type_node e.type_node }
 
+-- the entries of TYPE
 abbrev pub types_of : List TypeEntry → List tree.TypeEntry
 types_of [] = []
 types_of (e ∷ rest) = view_type_entry e ∷ types_of rest
 
+-- an entry of VAR
 abbrev pub view_var : VarEntry → tree.VarEntry
 view_var e = record { names = view_names e.names; type_node = view_type_node e.type_node }
 
+-- the entries of VAR
 abbrev pub vars_of : List VarEntry → List tree.VarEntry
 vars_of [] = []
 vars_of (e ∷ rest) = view_var e ∷ vars_of rest
 
+-- a Formal
 abbrev pub view_formal : Formal → tree.Formal
 view_formal f = record { node = f.node; mode = f.mode; names = view_names f.names; type_name = view_name f.type_name }
 
+-- Formals behind the first
 abbrev pub more_formals_of : List Formal → List tree.Formal
 more_formals_of [] = []
 more_formals_of (f ∷ rest) = view_formal f ∷ more_formals_of rest
 
+-- a list of Formals
 abbrev pub view_formals : Formals → tree.Formals
 view_formals f = record { node = f.node; first = view_formal f.first; more = more_formals_of f.more.items }
 
+-- the Formals between parentheses, if there are any
 abbrev pub formals_in : Option Formals → Option tree.Formals
 formals_in None = None
 formals_in (Some f) = Some (view_formals f)
 
+-- the parameters with their parentheses
 abbrev pub view_params : Params → tree.Params
 view_params p = record { formals = formals_in p.formals }
 
+-- the parameters, if there are parentheses
 abbrev pub params_of : Option Params → Option tree.Params
 params_of None = None
 params_of (Some p) = Some (view_params p)
 
+-- the Name of the result type, if there is one
 abbrev pub result_of : Option Name → Option tree.Name
 result_of None = None
 result_of (Some n) = Some (view_name n)
 
+-- the body, if there is one
 abbrev pub body_of : Option ds.Stmts → Option tree.Stmts
 body_of None = None
 body_of (Some s) = Some (view_stmts s)
@@ -371,12 +412,15 @@ abbrev mutual
   view_decls db.end_of-Decl = tree.no_decl
   view_decls (db.more_of-Decl d rest) = tree.more_decl (view_decl d) (view_decls rest)
 
+-- the declarations of a block
 abbrev pub decls_of : List dh.Decl → tree.DeclTail
 decls_of [] = tree.no_decl
 decls_of (d ∷ rest) = tree.more_decl (view_decl d) (decls_of rest)
 
+-- a block
 abbrev pub view_block : db.Block → tree.Block
 view_block b = tree.block b.node (decls_of b.decls.items) (body_of b.body)
 
+-- the module
 abbrev pub view_module : Module → tree.Module
 view_module m = record { node = m.node; name = view_name m.name; block = view_block m.block; end_name = view_name m.end_name }
