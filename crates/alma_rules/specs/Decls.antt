@@ -198,13 +198,16 @@ with_texts s xs = texts_behind s [] xs
 
 -- the number of routines in declarations
 unfoldable mutual
+  -- of a block
   pub block_routines : tree.Block → ℕ
   block_routines (tree.block n decls body) = decls_routines decls
 
+  -- of declarations
   pub decls_routines : tree.DeclTail → ℕ
   decls_routines tree.no_decl = 0
   decls_routines (tree.more_decl d rest) = decl_routines d + decls_routines rest
 
+  -- of one declaration
   pub decl_routines : tree.Decl → ℕ
   decl_routines (tree.const_decl n xs) = 0
   decl_routines (tree.type_decl n xs) = 0

@@ -114,6 +114,7 @@ unfoldable mutual
   judge_bodies s r (tree.more_decl d rest) =
       after (judge_decl s r d) (λ j. bodied_both j (judge_bodies (with_shapes s j.shapes) (r + decl_routines d) rest))
 
+  -- one declaration: of a procedure its block, and the Name after its END
   pub judge_decl : Scene → (r : ℕ) → tree.Decl → RoutineBodies
   judge_decl s r (tree.const_decl n xs) = no_routines s.shapes
   judge_decl s r (tree.type_decl n xs) = no_routines s.shapes

@@ -264,28 +264,34 @@ index_type_at p r = reading_at (tree.plain_node p) (index_type_rules r.scene) r
 -- ---- the walk
 
 unfoldable mutual
+  -- a type: its shape
   pub read_type : Scene → tree.TypeNode → Reading ℕ
   read_type s (tree.type_node n dims p) =
       reading_with number_in (reading_at n size_rules (reading_change rows_of (reading_then (read_arrays s dims) (λ i. read_plain i p))))
 
+  -- the indices of the ARRAY parts, if there are any
   pub read_arrays : Scene → tree.Arrays → Reading (List ℕ)
   read_arrays s tree.no_arrays = gives s []
   read_arrays s (tree.arrays n d rest) = reading_with joined_indices (reading_then (read_dimensions s d) (λ i. read_dimension_tail i rest))
 
+  -- the indices of further ARRAY parts
   pub read_dimension_tail : Scene → tree.DimensionTail → Reading (List ℕ)
   read_dimension_tail s tree.no_dimensions = gives s []
   read_dimension_tail s (tree.more_dimensions d rest) =
       reading_with joined_indices (reading_then (read_dimensions s d) (λ i. read_dimension_tail i rest))
 
+  -- the indices of an ARRAY part
   pub read_dimensions : Scene → tree.Dimensions → Reading (List ℕ)
   read_dimensions s (tree.dimensions p rest) =
       reading_with cons_index (reading_then (index_type_at p (read_plain s p)) (λ i. read_plains i rest))
 
+  -- further indices of an ARRAY part
   pub read_plains : Scene → tree.PlainTail → Reading (List ℕ)
   read_plains s tree.no_plain = gives s []
   read_plains s (tree.more_plain p rest) =
       reading_with cons_index (reading_then (index_type_at p (read_plain s p)) (λ i. read_plains i rest))
 
+  -- a plain type: its shape, or that it is past a limit
   pub read_plain : Scene → tree.PlainType → Reading ShapeOrLimit
   read_plain s (tree.type_name n name) = reading_with formed (read_type_name s name)
   read_plain s (tree.listed n names) = read_listed s (all_names names) (last_token names.first names.more + 2)
@@ -301,6 +307,7 @@ unfoldable mutual
   read_fields s earlier (tree.fields n names t) =
       fields_of_type s (all_names names) (redeclared_fields s earlier (all_names names)) (read_type s t)
 
+  -- further field lists, behind fields with these names
   pub read_field_tail : Scene → (earlier : List tree.Name) → tree.FieldListTail → Reading (List PlainField)
   read_field_tail s earlier tree.no_fields = gives s []
   read_field_tail s earlier (tree.more_fields x rest) =
@@ -308,34 +315,42 @@ unfoldable mutual
 
 -- the names of the enumerations in a type, in the order of the text
 unfoldable mutual
+  -- of a type
   pub type_names : tree.TypeNode → List tree.Name
   type_names (tree.type_node n dims p) = arrays_names dims ++ plain_names p
 
+  -- of the ARRAY parts, if there are any
   pub arrays_names : tree.Arrays → List tree.Name
   arrays_names tree.no_arrays = []
   arrays_names (tree.arrays n d rest) = dimensions_names d ++ dimension_tail_names rest
 
+  -- of further ARRAY parts
   pub dimension_tail_names : tree.DimensionTail → List tree.Name
   dimension_tail_names tree.no_dimensions = []
   dimension_tail_names (tree.more_dimensions d rest) = dimensions_names d ++ dimension_tail_names rest
 
+  -- of an ARRAY part
   pub dimensions_names : tree.Dimensions → List tree.Name
   dimensions_names (tree.dimensions p rest) = plain_names p ++ plains_names rest
 
+  -- of further plain types
   pub plains_names : tree.PlainTail → List tree.Name
   plains_names tree.no_plain = []
   plains_names (tree.more_plain p rest) = plain_names p ++ plains_names rest
 
+  -- of a plain type
   pub plain_names : tree.PlainType → List tree.Name
   plain_names (tree.type_name n name) = []
   plain_names (tree.listed n names) = all_names names
   plain_names (tree.subrange n low high) = []
   plain_names (tree.record_type n first rest) = fields_names first ++ field_tail_names rest
 
+  -- of a field list
   pub fields_names : tree.FieldList → List tree.Name
   fields_names (tree.empty_fields n) = []
   fields_names (tree.fields n names t) = type_names t
 
+  -- of further field lists
   pub field_tail_names : tree.FieldListTail → List tree.Name
   field_tail_names tree.no_fields = []
   field_tail_names (tree.more_fields x rest) = fields_names x ++ field_tail_names rest

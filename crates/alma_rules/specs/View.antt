@@ -44,6 +44,7 @@ view_name l = record { node = l.node; token = l.token }
 -- ---- statements and expressions
 
 abbrev mutual
+  -- a statement
   pub view_stmt : dt.Stmt → tree.Stmt
   view_stmt (dt.Nothing n) = tree.nothing n
   view_stmt (dt.Assign' n m l shape row e) = tree.assign n (tree.desig m (view_name l) (view_selectors row)) (view_expr e)
@@ -67,81 +68,101 @@ abbrev mutual
   view_stmt (dt.Write n es) = tree.write_stmt n (view_exprs es)
   view_stmt (dt.Writeln' n a) = tree.writeln_stmt n (view_args a)
 
+  -- statements behind the first
   pub view_stmts_row : {n : _} → da.Row_of-Stmt n → tree.StmtTail
   view_stmts_row da.end_of-Stmt = tree.no_stmt
   view_stmts_row (da.more_of-Stmt s rest) = tree.more_stmt (view_stmt s) (view_stmts_row rest)
 
+  -- the ELSIF parts
   pub view_elsifs : {n : _} → dt.Row_of-Elsif n → tree.ElsifTail
   view_elsifs dt.end_of-Elsif = tree.no_elsif
   view_elsifs (dt.more_of-Elsif (df.Elsif' e m b s shape row) rest) =
       tree.more_elsif (view_expr e) (tree.stmts m (view_stmt s) (view_stmts_row row)) (view_elsifs rest)
 
+  -- the ELSE part, if there is one
   pub view_else : dt.Held-Stmt-If-4 → tree.Else
   view_else dt.Stmt-If-4-None' = tree.no_else
   view_else (dt.Stmt-If-4-Some' m b s shape row) = tree.else_stmts (tree.stmts m (view_stmt s) (view_stmts_row row))
 
+  -- the BY part, if there is one
   pub view_by : dl.Held-Stmt-For-4 → tree.By
   view_by dl.Stmt-For-4-None' = tree.no_by
   view_by (dl.Stmt-For-4-Some' e) = tree.by_expr (view_expr e)
 
+  -- the ORELSE parts
   pub view_orelses : {n : _} → dt.Row_of-Stmts n → tree.OrelseTail
   view_orelses dt.end_of-Stmts = tree.no_orelse
   view_orelses (dt.more_of-Stmts m b s shape row rest) =
       tree.more_orelse (tree.stmts m (view_stmt s) (view_stmts_row row)) (view_orelses rest)
 
+  -- the value of RETURN, if there is one
   pub view_returned : dl.Held-Stmt-For-4 → tree.Returned
   view_returned dl.Stmt-For-4-None' = tree.no_value
   view_returned (dl.Stmt-For-4-Some' e) = tree.returned (view_expr e)
 
+  -- designators behind the first
   pub view_desigs : {n : _} → dt.Row_of-Desig n → tree.DesigTail
   view_desigs dt.end_of-Desig = tree.no_desig
   view_desigs (dt.more_of-Desig m l shape row rest) = tree.more_desig (tree.desig m (view_name l) (view_selectors row)) (view_desigs rest)
 
+  -- an arm of CASE
   pub view_arm : da.Arm → tree.Arm
   view_arm (da.Empty n) = tree.empty_arm n
   view_arm (da.Labelled' n l shape row m b s shape' row') =
       tree.arm n (view_label l) (view_labels row) (tree.stmts m (view_stmt s) (view_stmts_row row'))
 
+  -- arms of CASE behind the first
   pub view_arm_row : {n : _} → dt.Row_of-Arm n → tree.ArmTail
   view_arm_row dt.end_of-Arm = tree.no_arm
   view_arm_row (dt.more_of-Arm a rest) = tree.more_arm (view_arm a) (view_arm_row rest)
 
+  -- a label
   pub view_label : dl.Label → tree.Label
   view_label (dl.Label' n e h) = tree.label n (view_expr e) (view_high h)
 
+  -- the upper end of a label, if there is one
   pub view_high : dl.Held-Stmt-For-4 → tree.High
   view_high dl.Stmt-For-4-None' = tree.no_high
   view_high (dl.Stmt-For-4-Some' e) = tree.high_expr (view_expr e)
 
+  -- labels behind the first
   pub view_labels : {n : _} → da.Row_of-Label n → tree.LabelTail
   view_labels da.end_of-Label = tree.no_label
   view_labels (da.more_of-Label l rest) = tree.more_label (view_label l) (view_labels rest)
 
+  -- an expression
   pub view_expr : de.Expr → tree.Expr
   view_expr (de.Expr' n s right) = tree.expr n (view_simple s) (view_compared right)
 
+  -- a relation with its right side, if there is one
   pub view_compared : de.Held-Expr-right → tree.Compared
   view_compared de.Expr-right-None' = tree.no_relation
   view_compared (de.Expr-right-Some' b (dc.Compared' r s)) = tree.compared r (view_simple s)
 
+  -- a Simple
   pub view_simple : di.Simple → tree.Simple
   view_simple (di.Simple' n sign b t shape row) = tree.simple n sign (view_term t) (view_terms row)
 
+  -- operators, each with its term
   pub view_terms : {n : _} → di.Row_of-AddLink n → tree.TermTail
   view_terms di.end_of-AddLink = tree.no_term
   view_terms (di.more_of-AddLink (dk.AddLink' o t) rest) = tree.more_term o (view_term t) (view_terms rest)
 
+  -- a Term
   pub view_term : dm.Term → tree.Term
   view_term (dm.Term' n f shape row) = tree.term n (view_factor f) (view_factors row)
 
+  -- operators, each with its factor
   pub view_factors : {n : _} → dm.Row_of-MulLink n → tree.FactorTail
   view_factors dm.end_of-MulLink = tree.no_factor
   view_factors (dm.more_of-MulLink o f rest) = tree.more_factor o (view_factor f) (view_factors rest)
 
+  -- a Factor
   pub view_factor : dr.Factor → tree.Factor
   view_factor (dr.Not n p) = tree.not_factor n (view_primary p)
   view_factor (dr.Plain n p) = tree.factor n (view_primary p)
 
+  -- a Primary
   pub view_primary : dp.Primary → tree.Primary
   view_primary (dp.Number n l) = tree.number n l.token
   view_primary (dp.Literal n l) = tree.literal n l.token
@@ -151,22 +172,27 @@ abbrev mutual
   view_primary (dp.Ord' n b e) = tree.ord n (view_expr e)
   view_primary (dp.Chr' n b e) = tree.chr n (view_expr e)
 
+  -- the arguments, if there are parentheses
   pub view_args : dp.Held-Primary-Desig-2 → tree.Args
   view_args dp.Primary-Desig-2-None' = tree.no_args
   view_args (dp.Primary-Desig-2-Some' (dg.Args' dg.Args-values-None')) = tree.empty_args
   view_args (dp.Primary-Desig-2-Some' (dg.Args' (dg.Args-values-Some' es))) = tree.args (view_exprs es)
 
+  -- a list of expressions
   pub view_exprs : dx.Exprs → tree.Exprs
   view_exprs (dx.Exprs' b e shape row) = tree.exprs (view_expr e) (view_exprs_row row)
 
+  -- expressions behind the first
   pub view_exprs_row : {n : _} → dx.Row_of-Expr n → tree.ExprTail
   view_exprs_row dx.end_of-Expr = tree.no_expr
   view_exprs_row (dx.more_of-Expr e rest) = tree.more_expr (view_expr e) (view_exprs_row rest)
 
+  -- the selectors behind a name
   pub view_selectors : {n : _} → dd.Row_of-Selector n → tree.SelectorTail
   view_selectors dd.end_of-Selector = tree.no_selector
   view_selectors (dd.more_of-Selector s rest) = tree.more_selector (view_selector s) (view_selectors rest)
 
+  -- a selector
   pub view_selector : dj.Selector → tree.Selector
   view_selector (dj.Field n l) = tree.field n (view_name l)
   view_selector (dj.Index n es) = tree.index n (view_exprs es)
@@ -278,33 +304,40 @@ abbrev pub view_names : Names → tree.Names
 view_names n = record { node = n.node; first = view_name n.first; more = names_of n.more.items }
 
 abbrev mutual
+  -- a type
   pub view_type_node : dy.TypeNode → tree.TypeNode
   view_type_node (dy.TypeNode' n dims p) = tree.type_node n (view_arrays dims) (view_plain_type p)
 
+  -- the ARRAY parts of a type, if there are any
   pub view_arrays : dy.Held-TypeNode-arrays → tree.Arrays
   view_arrays dy.None' = tree.no_arrays
   view_arrays (dy.Some' (dz.Arrays' n p shape row shape' row')) =
       tree.arrays n (tree.dimensions (view_plain_type p) (view_plains row)) (view_dimensions row')
 
+  -- ARRAY parts behind the first
   pub view_dimensions : {n : _} → dz.Row_of-Dimensions n → tree.DimensionTail
   view_dimensions dz.end_of-Dimensions = tree.no_dimensions
   view_dimensions (dz.more_of-Dimensions p shape row rest) =
       tree.more_dimensions (tree.dimensions (view_plain_type p) (view_plains row)) (view_dimensions rest)
 
+  -- plain types behind the first
   pub view_plains : {n : _} → dz.Row_of-PlainType n → tree.PlainTail
   view_plains dz.end_of-PlainType = tree.no_plain
   view_plains (dz.more_of-PlainType p rest) = tree.more_plain (view_plain_type p) (view_plains rest)
 
+  -- a plain type
   pub view_plain_type : dq.PlainType → tree.PlainType
   view_plain_type (dq.Named n l) = tree.type_name n (view_name l)
   view_plain_type (dq.Listed n l) = tree.listed n (view_names l)
   view_plain_type (dq.Subrange n low high) = tree.subrange n (view_expr low) (view_expr high)
   view_plain_type (dq.Record' n b f shape row) = tree.record_type n (view_field_list f) (view_field_lists row)
 
+  -- a field list
   pub view_field_list : dw.FieldList → tree.FieldList
   view_field_list (dw.Empty n) = tree.empty_fields n
   view_field_list (dw.Fields n l t) = tree.fields n (view_names l) (view_type_node t)
 
+  -- field lists behind the first
   pub view_field_lists : {n : _} → dq.Row_of-FieldList n → tree.FieldListTail
   view_field_lists dq.end_of-FieldList = tree.no_fields
   view_field_lists (dq.more_of-FieldList f rest) = tree.more_fields (view_field_list f) (view_field_lists rest)
@@ -401,6 +434,7 @@ body_of None = None
 body_of (Some s) = Some (view_stmts s)
 
 abbrev mutual
+  -- a declaration
   pub view_decl : dh.Decl → tree.Decl
   view_decl (dh.Const n entries) = tree.const_decl n (consts_of entries.items)
   view_decl (dh.Type n entries) = tree.type_decl n (types_of entries.items)
@@ -408,6 +442,7 @@ abbrev mutual
   view_decl (dh.Procedure' n l p r m shape row b e) =
       tree.procedure n (view_name l) (params_of p) (result_of r) (tree.block m (view_decls row) (body_of b)) (view_name e)
 
+  -- declarations
   pub view_decls : {n : _} → db.Row_of-Decl n → tree.DeclTail
   view_decls db.end_of-Decl = tree.no_decl
   view_decls (db.more_of-Decl d rest) = tree.more_decl (view_decl d) (view_decls rest)
