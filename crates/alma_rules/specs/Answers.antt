@@ -10,13 +10,13 @@ use Rattle.alma_rules.specs.declared.error.Stop.TheVariants as stop
 use Rattle.alma_rules.specs.declared.error.CheckError.{CheckError}
 use Rattle.alma_rules.specs.declared.error.CheckError.TheVariants as error
 use Rattle.alma_rules.specs.Numbered as tree
-use Rattle.alma_rules.specs.Judgement.{BrokenRule, Judgement, broken_at, least}
+use Rattle.alma_rules.specs.Judgement.{BrokenRule, Judgement, broken_at}
 use Rattle.alma_rules.specs.Scene.{Scene, in_constant}
 use Rattle.alma_rules.specs.Parts.{Typing}
 use Rattle.alma_rules.specs.Walk.{judge_expr}
 use Rattle.alma_rules.specs.Places.{Mark, node_token, mark_expr, mark_type}
 use Rattle.alma_rules.specs.Types.{Reading, read_type}
-use Rattle.alma_rules.specs.Modules.{RoutineBodies, broken_rules, resolution, check_fault, first_token_of}
+use Rattle.alma_rules.specs.Modules.{broken_rules, resolution, check_fault, first_token_of}
 
 -- ---- calls inside the walk, which stop at the first broken rule
 
@@ -40,22 +40,6 @@ Answers j view next (Err e) = Stops j.faults e
 abbrev pub Passes : ℕ → List CheckFault → Result (Unit {0}) Stop → Type 0
 Passes n rules (Ok u) = rules ≡ []
 Passes n rules (Err e) = Stops (broken_at n rules) e
-
--- declarations are read, and go on behind a broken rule: the scene is what they leave, and the first broken rule is kept
-abbrev pub Reads : {A X : Type 0} → Reading A → (X → A) → (after : Scene) → Result (Option X) Stop → Type 0
-Reads r view after (Ok v) = r ≡ record { faults = []; scene = after; value = option_map view v }
-Reads r view after (Err (stop.Fault f n)) = (first r.faults ≡ Some (record { node = n; fault = f })) × (r.scene ≡ after)
-Reads r view after (Err stop.Memory) = Unit {0}
-
--- the call names the least of the broken rules, at its node; want of memory is free
-abbrev pub Names : List BrokenRule → Stop → Type 0
-Names faults (stop.Fault f n) = least faults ≡ Some (record { node = n; fault = f })
-Names faults stop.Memory = Unit {0}
-
--- a block is judged: its routines where no rule is broken, and else the least of the broken rules
-abbrev pub Judges : {X : Type 0} → RoutineBodies → (X → List ir.Routine) → (shapes : List PlainShape) → Result (Option X) Stop → Type 0
-Judges j view shapes (Ok v) = (j.faults ≡ []) × (j.shapes ≡ shapes) × (j.value ≡ option_map view v)
-Judges j view shapes (Err e) = Names j.faults e
 
 -- ---- const_value, shape_of and fits
 
