@@ -229,15 +229,15 @@ structured s t = is_structured s t.shape
 abbrev pub simple_rules : Scene → Option Typing → List CheckFault
 simple_rules s v = when (holds (structured s) v) fault.TypeMismatch
 
--- TypeMismatch: KNOWN of a structured designator
+-- the designator is structured
 abbrev pub structured_place : Scene → Location → Bool
 structured_place s l = is_structured s l.shape
 
--- KNOWN: NotConst, and TypeMismatch
+-- KNOWN: NotConst, and TypeMismatch of a structured designator
 abbrev pub known_rules : Scene → Option Location → List CheckFault
 known_rules s v = constant_rules s ++ when (holds (structured_place s) v) fault.TypeMismatch
 
--- TypeMismatch: a base other than INTEGER
+-- the base is another one than INTEGER
 abbrev pub no_integer : Scene → Typing → Bool
 no_integer s t = not (has_integer s t.shape)
 
@@ -245,11 +245,11 @@ no_integer s t = not (has_integer s t.shape)
 abbrev pub is_char : ℤ → Bool
 is_char v = within char_range v
 
--- ConstRange: in a constant place an expression of base INTEGER without a value that is a CHAR
+-- in a constant place, of base INTEGER, and without a value that is a CHAR
 abbrev pub no_char : Scene → Typing → Bool
 no_char s t = s.constant && has_integer s t.shape && not (holds is_char t.constant)
 
--- CHR: TypeMismatch, and ConstRange
+-- CHR: TypeMismatch of a base other than INTEGER, and ConstRange of a constant that is no CHAR
 abbrev pub chr_rules : Scene → Option Typing → List CheckFault
 chr_rules s v = when (holds (no_integer s) v) fault.TypeMismatch ++ when (holds (no_char s) v) fault.ConstRange
 
@@ -269,7 +269,7 @@ abbrev pub unlike : Scene → Relation → Typing × Typing → Bool
 unlike s relation p =
     not (are_compatible s p.0.shape p.1.shape) || (is_structured s p.0.shape && not (is_equation relation))
 
--- a relation: NotConst, and TypeMismatch
+-- the rules on a relation: NotConst, and TypeMismatch
 abbrev pub relation_rules : Scene → Relation → Option (Typing × Typing) → List CheckFault
 relation_rules s relation v = constant_rules s ++ when (holds (unlike s relation) v) fault.TypeMismatch
 
@@ -285,7 +285,7 @@ pub data Argument : Type 0 where
   of_bad : Argument
   of_variable : Argument
 
--- which of these a designator is, by what its name stands for
+-- which of the three a designator is, by what its name stands for
 abbrev pub argument_found : Scene → Found → Argument
 argument_found s absent = of_bad
 argument_found s bad = of_bad
@@ -295,7 +295,7 @@ argument_found s (variable shape root) = of_variable
 argument_found s (routine r up None) = of_bad
 argument_found s (routine r up (Some h)) = other
 
--- which of these a designator is
+-- which of the three a designator is
 abbrev pub argument_desig : Scene → tree.Desig → Argument
 argument_desig s (tree.desig n name more) = argument_found s (found s name)
 
@@ -305,12 +305,12 @@ exactly (tree.expr n (tree.simple m None (tree.term k (tree.factor i (tree.named
     tree.no_relation) = Some d
 exactly e = None
 
--- which of these an expression is, by the designator that it exactly is, if it is one
+-- which of the three an expression is, by the designator that it exactly is, if it is one
 abbrev pub argument_kind_of : Scene → Option tree.Desig → Argument
 argument_kind_of s None = other
 argument_kind_of s (Some d) = argument_desig s d
 
--- which of these an expression is
+-- which of the three an expression is
 abbrev pub argument_kind : Scene → tree.Expr → Argument
 argument_kind s e = argument_kind_of s (exactly e)
 

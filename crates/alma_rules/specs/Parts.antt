@@ -186,7 +186,7 @@ simple_argument s (Some modes.Var) shape m = ir.ByValue (value_of m) (range s sh
 simple_argument s (Some modes.Mix) shape (a_place d) = ir.MixPlace d
 simple_argument s (Some modes.Mix) shape m = ir.MixValue (value_of m) (range s shape)
 
--- an argument to a structured formal: to a value formal the cells of the place, else the place
+-- an argument to a structured formal: to a value formal the cells of the place, else the place; what is no place goes by value
 abbrev pub structured_argument : Option Mode → Meaning → ir.Arg
 structured_argument None (a_place d) = ir.ByCells d
 structured_argument (Some m) (a_place d) = ir.ByPlace d
@@ -326,9 +326,9 @@ chain_of join sign (first, (logical, t) ∷ rest) = a_test (join (ir.more_tests 
 
 -- the shape of a sum or product: INTEGER, or BOOLEAN where the first operator is AND or OR
 abbrev pub chain_shape : Operands → ℕ
-chain_shape [] = 0
-chain_shape ((arithmetic op, t) ∷ rest) = 0
-chain_shape ((logical, t) ∷ rest) = 2
+chain_shape [] = integer_shape
+chain_shape ((arithmetic op, t) ∷ rest) = integer_shape
+chain_shape ((logical, t) ∷ rest) = boolean_shape
 
 -- a sum or product as an expression
 abbrev pub chain_typing : (ir.Tests → ir.Test) → Option Sign → Typing × Operands → Typing
