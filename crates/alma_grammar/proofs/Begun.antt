@@ -1,4 +1,4 @@
--- Each front of a program can be finished.
+-- A part is built from the token that began it and from what fills what is open behind that.
 use Rattle.std.proofs.Common.{◌≡◌, Bool, true, false, List, ◌∷◌, ◌++◌, Option, None, Some, nat_eq, refl, ap}
 use Rattle.alma_tree.specs.declared.kind.Kind.{Kind}
 use Rattle.alma_tree.specs.declared.kind.Kind.TheVariants as kinds

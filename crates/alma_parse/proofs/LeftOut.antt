@@ -1,4 +1,4 @@
--- Parts that are left out where the next token is not the one that begins them, and parts that begin with it.
+-- Parts of declarations that are left out where the next token is not the one that begins them, and parts that begin with it.
 use Rattle.std.proofs.Common.{◌≡◌, false, List, [], ◌∷◌, refl}
 use Rattle.alma_tree.specs.declared.kind.Kind.{Kind}
 use Rattle.alma_tree.specs.declared.kind.Kind.TheVariants as kinds

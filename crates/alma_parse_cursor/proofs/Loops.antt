@@ -62,7 +62,3 @@ regrouped (Some at) g h = refl
 
 pub grouped : (f g h : Step) → ((f >> g) >> h) ≡ (f >> (g >> h))
 grouped f g h = fun_ext (λ at. regrouped (f at) g h)
-
-stayed : (x : Option Cursor) → and_then x stay ≡ x
-stayed None = refl
-stayed (Some at) = refl

@@ -1,4 +1,4 @@
--- The parts of each form of a statement and of a primary, its first token included.
+-- The parts of each form of a statement, selector, primary, type and declaration, its first token included.
 use Rattle.std.specs.Prelude.{List, ◌∷◌}
 use Rattle.alma_tree.specs.declared.kind.Kind.TheVariants as kinds
 use Rattle.alma_grammar.specs.Parts.{Part, one, args_part, elsif_tail, else_part, by_part, orelse_tail, returned_part, desig_tail, arm_part}

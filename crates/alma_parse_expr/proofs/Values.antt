@@ -1,8 +1,6 @@
 -- What the values that the functions read spell and number.
-use Rattle.std.proofs.Common.{List, ◌∷◌, Vec, Global}
+use Rattle.std.proofs.Common.{List, Vec, Global}
 use Rattle.alma_tree.specs.declared.kind.Kind.{Kind}
-use Rattle.alma_tree.specs.declared.kind.Kind.TheVariants as kinds
-use Rattle.alma_tree.specs.declared.leaf.Name.{Name}
 use Rattle.alma_tree.specs.declared.phrase.Stmts as ds
 use Rattle.alma_tree.specs.declared.phrase.Stmt as dt
 use Rattle.alma_tree.specs.declared.phrase.Label as dl
@@ -26,9 +24,6 @@ use Rattle.alma_tree.specs.View.{view_expr, view_stmts, view_desig, view_exprs, 
 use Rattle.alma_tree.specs.View.{orelses_of, desigs_of}
 use Rattle.alma_tree.specs.Numbers.{Step, numbers_of_terms, numbers_of_factors, numbers_of_selectors, numbers_of_stmts, numbers_of_labels}
 use Rattle.alma_tree.specs.Numbers.{numbers_of_orelses, numbers_of_desigs}
-
-abbrev pub a_name : Name → List Kind → List Kind
-a_name v ks = kinds.Name ∷ ks
 
 abbrev pub an_expr : de.Expr → List Kind → List Kind
 an_expr v = spell_expr (view_expr v)

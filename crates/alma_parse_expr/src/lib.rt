@@ -1,5 +1,5 @@
-//! Reading expressions, over a reader of the statements inside them; and what every part of the
-//! parser is made with.
+//! Reading expressions, over a reader of the statements inside them; and the boxes, lists and steps
+//! that reading statements takes too.
 #![tactic(auto)]
 
 mod expression;

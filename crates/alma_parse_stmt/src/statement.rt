@@ -17,7 +17,8 @@ use alma_parse_expr::{StmtsRead, boxed, expr, pushed};
 use alma_tree::{Kind, Stmt, Stmts};
 use std::alloc::Global;
 
-/// Statements.
+/// One statement or more with semicolons between them, any of which may be empty. `depth` counts
+/// the brackets that are open here, and `inside` reads the statements that stand in them.
 pub(crate) fn statements<'t, 's, S>(
     alloc: Global,
     at: Cursor<'t, 's>,

@@ -412,10 +412,6 @@ pub operands_none : (sort : Bool) → OperandsTally sort 0 []
 unfolding expr_phrases
 operands_none sort = record { links = λ e. tally_nil; tests = λ e. tally_nil; kind = tt }
 
-clash : {A : Type 0} (b : Bool) → b ≡ true → b ≡ false → A
-clash true p q = absurd (cc)
-clash false p q = absurd (cc)
-
 pub operands_more : (sort : Bool) (o : Operator) (n m : ℕ) (p : Typing × Operands) → TermTally (operand_behind sort o) n p.0
     → OperandsTally sort m p.1 → OperandsTally sort (n + m) (cons_operand o p)
 unfolding expr_phrases

@@ -1,5 +1,5 @@
 -- What the walk says of FOR and SOME, as the code meets it.
-use Rattle.std.proofs.Common.{◌≡◌, ℕ, ◌+◌, [], ◌++◌, Option, None, Result, refl}
+use Rattle.std.proofs.Common.{◌≡◌, ℕ, ◌+◌, [], Option, None, Result, refl}
 use Rattle.std.specs.Prelude.{ℤ, pos, option_and_then}
 use Rattle.alma_ir.specs.Tree as ir
 use Rattle.alma_rules.specs.declared.error.Stop.{Stop}

@@ -10,20 +10,22 @@ use Rattle.alma_rules.specs.declared.error.Stop.TheVariants as stop
 use Rattle.alma_rules.specs.declared.error.CheckError.{CheckError}
 use Rattle.alma_rules.specs.declared.error.CheckError.TheVariants as error
 use Rattle.alma_rules.specs.Numbered as tree
-use Rattle.alma_rules.specs.Judgement.{BrokenRule, Judgement, broken_at, least}
+use Rattle.alma_rules.specs.Judgement.{BrokenRule, Judgement, broken_at}
 use Rattle.alma_rules.specs.Scene.{Scene, in_constant}
 use Rattle.alma_rules.specs.Parts.{Typing}
 use Rattle.alma_rules.specs.Walk.{judge_expr}
 use Rattle.alma_rules.specs.Places.{Mark, node_token, mark_expr, mark_type}
 use Rattle.alma_rules.specs.Types.{Reading, read_type}
-use Rattle.alma_rules.specs.Modules.{RoutineBodies, broken_rules, resolution, check_fault, first_token_of}
+use Rattle.alma_rules.specs.Modules.{broken_rules, resolution, check_fault, first_token_of}
 
 -- ---- calls inside the walk, which stop at the first broken rule
 
+-- the first of the broken rules, if there is one
 abbrev pub first : List BrokenRule → Option BrokenRule
 first [] = None
 first (b ∷ bs) = Some b
 
+-- the call names the first of the broken rules, at its node; want of memory is free
 abbrev pub Stops : List BrokenRule → Stop → Type 0
 Stops faults (stop.Fault f n) = first faults ≡ Some (record { node = n; fault = f })
 Stops faults stop.Memory = Unit {0}
@@ -39,21 +41,6 @@ abbrev pub Passes : ℕ → List CheckFault → Result (Unit {0}) Stop → Type 
 Passes n rules (Ok u) = rules ≡ []
 Passes n rules (Err e) = Stops (broken_at n rules) e
 
--- declarations are read, and go on behind a broken rule: the scene is what they leave, and the first broken rule is kept
-abbrev pub Reads : {A X : Type 0} → Reading A → (X → A) → (after : Scene) → Result (Option X) Stop → Type 0
-Reads r view after (Ok v) = r ≡ record { faults = []; scene = after; value = option_map view v }
-Reads r view after (Err (stop.Fault f n)) = (first r.faults ≡ Some (record { node = n; fault = f })) × (r.scene ≡ after)
-Reads r view after (Err stop.Memory) = Unit {0}
-
--- a block is judged: its routines where no rule is broken, and else the least of the broken rules
-abbrev pub Names : List BrokenRule → Stop → Type 0
-Names faults (stop.Fault f n) = least faults ≡ Some (record { node = n; fault = f })
-Names faults stop.Memory = Unit {0}
-
-abbrev pub Judges : {X : Type 0} → RoutineBodies → (X → List ir.Routine) → (shapes : List PlainShape) → Result (Option X) Stop → Type 0
-Judges j view shapes (Ok v) = (j.faults ≡ []) × (j.shapes ≡ shapes) × (j.value ≡ option_map view v)
-Judges j view shapes (Err e) = Names j.faults e
-
 -- ---- const_value, shape_of and fits
 
 -- the fault is the first that is broken, at its node, with the first token of that node
@@ -64,6 +51,7 @@ IsFirst faults marks f n t = (first faults ≡ Some (record { node = n; fault = 
 abbrev pub constant_pair : Typing → Option (ℕ × ℤ)
 constant_pair t = option_map (λ v. (t.shape, v)) t.constant
 
+-- the constant, if the expression has a value, where no rule is broken; else the first broken rule; want of memory is free
 abbrev pub GivesConstant : Judgement Typing → List Mark → Result (Option (ℕ × ℤ)) CheckError → Type 0
 GivesConstant j marks (Ok v) = (j.faults ≡ []) × (option_and_then constant_pair j.value ≡ v)
 GivesConstant j marks (Err (error.Fault f n t)) = IsFirst j.faults marks f n t
@@ -73,6 +61,7 @@ GivesConstant j marks (Err error.Memory) = Unit {0}
 abbrev pub IsConstValue : Scene → tree.Expr → (at : ℕ) → Result (Option (ℕ × ℤ)) CheckError → Type 0
 IsConstValue s e at result = GivesConstant (judge_expr (in_constant s) 0 e) (mark_expr e at).marks result
 
+-- the shape (None: Bad) where no rule is broken, else the first broken rule, and the scene; want of memory is free
 abbrev pub GivesShape : Reading ℕ → List Mark → (after : Scene) → Result (Option ℕ) CheckError → Type 0
 GivesShape r marks after (Ok v) = (r.faults ≡ []) × (r.value ≡ v) × (r.scene ≡ after)
 GivesShape r marks after (Err (error.Fault f n t)) = IsFirst r.faults marks f n t × (r.scene ≡ after)

@@ -1,6 +1,6 @@
 -- The rules on designators and expressions, and those of each node in the order of CheckFault. A rule that needs a type is not
 -- broken where that type is Bad (None).
-use Rattle.std.specs.Prelude.{ℕ, ℤ, pos, Bool, true, false, ◌&&◌, ◌||◌, not, nat_eq, List, [], ◌∷◌, ◌++◌, length, is_some, Option}
+use Rattle.std.specs.Prelude.{ℕ, ℤ, Bool, true, false, ◌&&◌, ◌||◌, not, nat_eq, List, [], ◌∷◌, ◌++◌, length, is_some, Option}
 use Rattle.std.specs.Prelude.{None, Some, option_map}
 use Rattle.alma_base.specs.Numbers.{within, char_range}
 use Rattle.alma_base.specs.declared.fault.CheckFault.{CheckFault}
@@ -26,16 +26,19 @@ pub data Use : Type 0 where
   as_value : Use
   as_procedure : Use
 
+-- a variable is asked for
 abbrev pub is_variable_use : Use → Bool
 is_variable_use as_variable = true
 is_variable_use as_value = false
 is_variable_use as_procedure = false
 
+-- a value is asked for
 abbrev pub is_value_use : Use → Bool
 is_value_use as_variable = false
 is_value_use as_value = true
 is_value_use as_procedure = false
 
+-- a procedure before an argument list is asked for
 abbrev pub is_procedure_use : Use → Bool
 is_procedure_use as_variable = false
 is_procedure_use as_value = false
@@ -48,6 +51,7 @@ abbrev pub undeclared : Found → Bool
 undeclared absent = true
 undeclared f = false
 
+-- the rules on a Name in use
 abbrev pub name_rules : {A : Type 0} → Found → Option A → List CheckFault
 name_rules f v = when (undeclared f) fault.Undeclared
 
@@ -58,11 +62,12 @@ no_constant s selected bad = false
 no_constant s selected (constant shape v) = s.constant && selected
 no_constant s selected f = s.constant
 
--- a procedure that is not called by its bare name: a function, or one with parameters
+-- there are formals
 abbrev pub has_formals : List FormalOf → Bool
 has_formals [] = false
 has_formals (f ∷ fs) = true
 
+-- a procedure that is not called by its bare name: a function, or one with parameters
 abbrev pub wants_arguments : Heading → Bool
 wants_arguments h = is_some h.result || has_formals h.formals
 
@@ -85,6 +90,7 @@ not_procedure wanted selected (routine r up None) = false
 not_procedure wanted selected (routine r up (Some h)) = is_procedure_use wanted && selected
 not_procedure wanted selected f = is_procedure_use wanted
 
+-- the rules on a Desig
 abbrev pub desig_rules : Scene → Use → (selected : Bool) → Found → Option Denotation → List CheckFault
 desig_rules s wanted selected f v =
     when (no_constant s selected f) fault.NotConst
@@ -101,6 +107,7 @@ abbrev pub no_field : Scene → List ℕ → Denotation → Bool
 no_field s name (a_variable l) = is_record_in (slice_get s.shapes l.shape) && not (is_some (field_of s name l))
 no_field s name d = false
 
+-- the rules on a field selector
 abbrev pub field_rules : Scene → List ℕ → Option Denotation → List CheckFault
 field_rules s name v = when (holds (not_record s) v) fault.NotRecord ++ when (holds (no_field s name) v) fault.NoField
 
@@ -109,6 +116,7 @@ abbrev pub not_array : Denotation → Bool
 not_array no_array = true
 not_array d = false
 
+-- the rules on an index selector
 abbrev pub array_rules : Option Denotation → List CheckFault
 array_rules v = when (holds not_array v) fault.NotArray
 
@@ -117,10 +125,12 @@ abbrev pub other_index : Scene → Option (ℕ × ℕ) → Typing → Bool
 other_index s None t = false
 other_index s (Some r) t = not (nat_eq (base s r.0) (base s t.shape))
 
+-- the same, of an index behind this designator
 abbrev pub other_index_of : Scene → Option Denotation → Typing → Bool
 other_index_of s (Some (a_variable l)) t = other_index s (row_at s l.shape) t
 other_index_of s d t = false
 
+-- the rules on an index Expr
 abbrev pub index_rules : Scene → Option Denotation → Option Typing → List CheckFault
 index_rules s d v = when (holds (other_index_of s d) v) fault.TypeMismatch
 
@@ -133,6 +143,7 @@ pub record Operand : Type 0 where
   pub sort : Bool
   pub operator : Option Operator
 
+-- an operand that stands alone
 abbrev pub alone : Operand
 alone = record { signed = false; sort = false; operator = None }
 
@@ -140,10 +151,12 @@ alone = record { signed = false; sort = false; operator = None }
 abbrev pub not_test : Scene → Typing → Bool
 not_test s t = not (has_boolean s t.shape)
 
+-- the operator is AND or OR
 abbrev pub logical_operand : Option Operator → Bool
 logical_operand None = false
 logical_operand (Some o) = is_logical o
 
+-- the operator is another one than AND and OR
 abbrev pub arithmetic_operand : Option Operator → Bool
 arithmetic_operand None = false
 arithmetic_operand (Some o) = not (is_logical o)
@@ -157,6 +170,7 @@ abbrev pub no_operand : Scene → Operand → Typing → Bool
 no_operand s o t =
     ((arithmetic_operand o.operator || o.signed) && not (has_integer s t.shape)) || (is_some o.operator && is_structured s t.shape)
 
+-- the rules on an operand
 abbrev pub operand_rules : Scene → Operand → Option Typing → List CheckFault
 operand_rules s o v =
     when (logical_operand o.operator && holds (not_test s) v) fault.NotTest
@@ -168,24 +182,27 @@ operand_rules s o v =
 abbrev pub has_no_value : Option Sign → Typing × Operands → Bool
 has_no_value sign p = not (is_some (chain_value sign p))
 
+-- ConstRange: in a constant place a Simple or Term without AND and OR has no value
 abbrev pub no_constant_sum : Scene → Option Sign → Bool → Option (Typing × Operands) → Bool
 no_constant_sum s sign with_logical v = s.constant && not with_logical && holds (has_no_value sign) v
 
--- a Simple or Term with operators: NotConst where one is AND or OR, the rules of its place, and ConstRange
+-- a Simple or Term with operators: NotConst where one is AND or OR, and ConstRange
 abbrev pub own_chain_rules : Scene → Option Sign → Bool → Option (Typing × Operands) → List CheckFault
 own_chain_rules s sign with_logical v =
     when (s.constant && with_logical) fault.NotConst ++ when (no_constant_sum s sign with_logical v) fault.ConstRange
 
+-- the same, with the rules of its place
 abbrev pub chain_rules : Scene → (ir.Tests → ir.Test) → Operand → Option Sign → Bool → Option (Typing × Operands) → List CheckFault
 chain_rules s join o sign with_logical v =
     when (s.constant && with_logical) fault.NotConst
     ++ operand_rules s o (option_map (chain_typing join sign) (unless (own_chain_rules s sign with_logical v) v))
     ++ when (no_constant_sum s sign with_logical v) fault.ConstRange
 
--- a Factor with NOT: NotConst, and the rules of its place
+-- NotConst: a phrase that may not stand in a constant place
 abbrev pub constant_rules : Scene → List CheckFault
 constant_rules s = when s.constant fault.NotConst
 
+-- a Factor with NOT: NotConst, and the rules of its place
 abbrev pub not_rules : Scene → Operand → Option Typing → List CheckFault
 not_rules s o v = constant_rules s ++ operand_rules s o (unless (constant_rules s) v)
 
@@ -200,6 +217,7 @@ literal_rules s text v =
 abbrev pub other_count : ℕ → Callee → Bool
 other_count count c = not (nat_eq count (length c.heading.formals))
 
+-- a call with an argument list: NotConst, and ArgCount
 abbrev pub call_rules : Scene → Option Callee → ℕ → Option (Callee × ir.Args) → List CheckFault
 call_rules s c count v = constant_rules s ++ when (holds (other_count count) c) fault.ArgCount
 
@@ -207,26 +225,31 @@ call_rules s c count v = constant_rules s ++ when (holds (other_count count) c) 
 abbrev pub structured : Scene → Typing → Bool
 structured s t = is_structured s t.shape
 
+-- the rules on a value that has to be simple
 abbrev pub simple_rules : Scene → Option Typing → List CheckFault
 simple_rules s v = when (holds (structured s) v) fault.TypeMismatch
 
--- KNOWN: NotConst, and TypeMismatch of a structured designator
+-- the designator is structured
 abbrev pub structured_place : Scene → Location → Bool
 structured_place s l = is_structured s l.shape
 
+-- KNOWN: NotConst, and TypeMismatch of a structured designator
 abbrev pub known_rules : Scene → Option Location → List CheckFault
 known_rules s v = constant_rules s ++ when (holds (structured_place s) v) fault.TypeMismatch
 
--- CHR: TypeMismatch of a base other than INTEGER, and ConstRange of a constant that is no CHAR
+-- the base is another one than INTEGER
 abbrev pub no_integer : Scene → Typing → Bool
 no_integer s t = not (has_integer s t.shape)
 
+-- the number is a CHAR
 abbrev pub is_char : ℤ → Bool
 is_char v = within char_range v
 
+-- in a constant place, of base INTEGER, and without a value that is a CHAR
 abbrev pub no_char : Scene → Typing → Bool
 no_char s t = s.constant && has_integer s t.shape && not (holds is_char t.constant)
 
+-- CHR: TypeMismatch of a base other than INTEGER, and ConstRange of a constant that is no CHAR
 abbrev pub chr_rules : Scene → Option Typing → List CheckFault
 chr_rules s v = when (holds (no_integer s) v) fault.TypeMismatch ++ when (holds (no_char s) v) fault.ConstRange
 
@@ -236,6 +259,7 @@ sequence_rules s v = constant_rules s
 
 -- ---- expressions
 
+-- the relation is =
 abbrev pub is_equation : Relation → Bool
 is_equation relations.Equal = true
 is_equation relation = false
@@ -245,6 +269,7 @@ abbrev pub unlike : Scene → Relation → Typing × Typing → Bool
 unlike s relation p =
     not (are_compatible s p.0.shape p.1.shape) || (is_structured s p.0.shape && not (is_equation relation))
 
+-- the rules on a relation: NotConst, and TypeMismatch
 abbrev pub relation_rules : Scene → Relation → Option (Typing × Typing) → List CheckFault
 relation_rules s relation v = constant_rules s ++ when (holds (unlike s relation) v) fault.TypeMismatch
 
@@ -260,6 +285,7 @@ pub data Argument : Type 0 where
   of_bad : Argument
   of_variable : Argument
 
+-- which of the three a designator is, by what its name stands for
 abbrev pub argument_found : Scene → Found → Argument
 argument_found s absent = of_bad
 argument_found s bad = of_bad
@@ -269,6 +295,7 @@ argument_found s (variable shape root) = of_variable
 argument_found s (routine r up None) = of_bad
 argument_found s (routine r up (Some h)) = other
 
+-- which of the three a designator is
 abbrev pub argument_desig : Scene → tree.Desig → Argument
 argument_desig s (tree.desig n name more) = argument_found s (found s name)
 
@@ -278,10 +305,12 @@ exactly (tree.expr n (tree.simple m None (tree.term k (tree.factor i (tree.named
     tree.no_relation) = Some d
 exactly e = None
 
+-- which of the three an expression is, by the designator that it exactly is, if it is one
 abbrev pub argument_kind_of : Scene → Option tree.Desig → Argument
 argument_kind_of s None = other
 argument_kind_of s (Some d) = argument_desig s d
 
+-- which of the three an expression is
 abbrev pub argument_kind : Scene → tree.Expr → Argument
 argument_kind s e = argument_kind_of s (exactly e)
 
@@ -298,6 +327,7 @@ is_var mode = false
 abbrev pub other_type : FormalOf → Typing → Bool
 other_type f t = not (nat_eq t.shape f.shape)
 
+-- the rules on an argument to this formal
 abbrev pub argument_rules_of : Scene → FormalOf → Argument → Option Typing → List CheckFault
 argument_rules_of s f of_bad v = []
 argument_rules_of s f of_variable v =
@@ -306,6 +336,7 @@ argument_rules_of s f of_variable v =
 argument_rules_of s f other v =
     when (not (is_var f.mode) && holds (not_fitting s f) v) fault.TypeMismatch ++ when (is_var f.mode) fault.NotDesignator
 
+-- the rules on an argument, none where there is no formal for it
 abbrev pub argument_rules : Scene → Option FormalOf → Argument → Option Typing → List CheckFault
 argument_rules s None kind v = []
 argument_rules s (Some f) kind v = argument_rules_of s f kind v

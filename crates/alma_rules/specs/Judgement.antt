@@ -20,6 +20,7 @@ pub record Judgement (A : Type 0) : Type 0 where
 abbrev pub of_value : {A : Type 0} → ℕ → Option A → Judgement A
 of_value next v = record { faults = []; next = next; value = v }
 
+-- the same, of a value that is not Bad
 abbrev pub fine : {A : Type 0} → ℕ → A → Judgement A
 fine next x = of_value next (Some x)
 
@@ -28,6 +29,7 @@ abbrev pub unless : {A : Type 0} → List CheckFault → Option A → Option A
 unless [] v = v
 unless (f ∷ fs) v = None
 
+-- these rules, broken at one node
 abbrev pub broken_at : ℕ → List CheckFault → List BrokenRule
 broken_at n [] = []
 broken_at n (f ∷ fs) = record { node = n; fault = f } ∷ broken_at n fs
@@ -37,6 +39,7 @@ abbrev pub at_node : {A : Type 0} → ℕ → (Option A → List CheckFault) →
 at_node n rules j =
     record { faults = j.faults ++ broken_at n (rules j.value); next = j.next; value = unless (rules j.value) j.value }
 
+-- two values, where neither is Bad
 abbrev pub both_of : {A B : Type 0} → Option A → Option B → Option (A × B)
 both_of (Some x) (Some y) = Some (x, y)
 both_of (Some x) None = None
@@ -59,6 +62,7 @@ if_unbroken (b ∷ bs) v = None
 abbrev pub after : {A B : Type 0} → A → (A → B) → B
 after x f = f x
 
+-- what a function makes of the value
 abbrev pub with : {A B : Type 0} → (A → B) → Judgement A → Judgement B
 with f j = record { faults = j.faults; next = j.next; value = option_map f j.value }
 
@@ -109,6 +113,7 @@ rank fault.TooLarge = 23
 abbrev pub is_before : BrokenRule → BrokenRule → Bool
 is_before a b = nat_lt a.node b.node || (nat_eq a.node b.node && nat_lt (rank a.fault) (rank b.fault))
 
+-- the lesser of a broken rule and one that there may not be
 abbrev pub lesser : BrokenRule → Option BrokenRule → BrokenRule
 lesser a None = a
 lesser a (Some b) = if is_before b a then b else a
@@ -118,6 +123,7 @@ abbrev pub better : Option BrokenRule → Option BrokenRule → Option BrokenRul
 better None b = b
 better (Some a) b = Some (lesser a b)
 
+-- the least of the broken rules, if there is one
 abbrev pub least : List BrokenRule → Option BrokenRule
 least [] = None
 least (b ∷ bs) = Some (lesser b (least bs))

@@ -31,6 +31,7 @@ abbrev pub judge_body : Frame → Option tree.Stmts → Judgement ir.Stmts
 judge_body f None = fine f.slots ir.no_stmts
 judge_body f (Some body) = judge_stmts f.scene f.slots body
 
+-- the range of what a routine returns, if it returns a value
 abbrev pub result_in : Scene → Returns → Option Range
 result_in s nothing = None
 result_in s (a_value shape) = option_map (range s) shape
@@ -55,6 +56,7 @@ routine_of f name outer slots lines body =
 abbrev pub cons_routine : Frame → tree.Name → (outer slots : ℕ) → List ℕ → List ir.Routine × ir.Stmts → List ir.Routine
 cons_routine f name outer slots lines p = routine_of f name outer slots lines p.1 ∷ p.0
 
+-- routines, and others behind them
 abbrev pub joined_routines : List ir.Routine × List ir.Routine → List ir.Routine
 joined_routines p = p.0 ++ p.1
 
@@ -64,6 +66,7 @@ pub record RoutineBodies : Type 0 where
   pub shapes : List PlainShape
   pub value : Option (List ir.Routine)
 
+-- what is judged where there is no routine
 abbrev pub no_routines : List PlainShape → RoutineBodies
 no_routines shapes = record { faults = []; shapes = shapes; value = Some [] }
 
@@ -84,6 +87,7 @@ bodied_both a b = record { faults = a.faults ++ b.faults; shapes = b.shapes; val
 abbrev pub end_rules : Scene → tree.Name → tree.Name → List CheckFault
 end_rules s name end_name = when (not (bytes_eq (text_at s name.token) (text_at s end_name.token))) fault.NameMismatch
 
+-- what is judged, with the rules on the Name after END
 abbrev pub with_end : Scene → tree.Name → tree.Name → RoutineBodies → RoutineBodies
 with_end s name end_name j =
     record { faults = j.faults ++ broken_at end_name.node (end_rules s name end_name); shapes = j.shapes; value = j.value }
@@ -92,6 +96,7 @@ with_end s name end_name j =
 abbrev pub frame_of : FramedHeading → Frame
 frame_of h = record h.frame { faults = [] }
 
+-- the scene with these shapes
 abbrev pub with_shapes : Scene → List PlainShape → Scene
 with_shapes s shapes = record s { shapes = shapes }
 
@@ -109,6 +114,7 @@ unfoldable mutual
   judge_bodies s r (tree.more_decl d rest) =
       after (judge_decl s r d) (λ j. bodied_both j (judge_bodies (with_shapes s j.shapes) (r + decl_routines d) rest))
 
+  -- one declaration: of a procedure its block, and the Name after its END
   pub judge_decl : Scene → (r : ℕ) → tree.Decl → RoutineBodies
   judge_decl s r (tree.const_decl n xs) = no_routines s.shapes
   judge_decl s r (tree.type_decl n xs) = no_routines s.shapes
@@ -138,6 +144,7 @@ first_scene source tokens m =
 abbrev pub module_frame : List ℕ → List Lexeme → tree.Module → Frame
 module_frame source tokens m = new_frame (with_block (first_scene source tokens m) 0 nothing [] m.block) 1
 
+-- what is judged of the module
 abbrev pub judge_module : List ℕ → List Lexeme → tree.Module → RoutineBodies
 judge_module source tokens m =
     with_end (first_scene source tokens m) m.name m.end_name
@@ -147,6 +154,7 @@ judge_module source tokens m =
 abbrev pub block_variables : Frame → (r : ℕ) → tree.Block → List ir.Global
 block_variables f r (tree.block n decls body) = (read_decls f r decls).variables
 
+-- the program of a module with these routines
 abbrev pub program_of : List ℕ → List Lexeme → tree.Module → List ir.Routine → ir.Program
 program_of source tokens m routines =
     record {
@@ -165,6 +173,7 @@ broken_rules source tokens m = (judge_module source tokens m).faults
 abbrev pub resolved_in : List ℕ → List Lexeme → tree.Module → RoutineBodies → Option ir.Program
 resolved_in source tokens m j = if_unbroken j.faults (option_map (program_of source tokens m) j.value)
 
+-- the resolved program of a tree, where no rule is broken in it
 abbrev pub resolution : List ℕ → List Lexeme → tree.Module → Option ir.Program
 resolution source tokens m = resolved_in source tokens m (judge_module source tokens m)
 

@@ -7,6 +7,7 @@ use Rattle.alma_tree.specs.declared.leaf.AddOperator.{AddOperator}
 use Rattle.alma_tree.specs.declared.leaf.MulOperator.{MulOperator}
 use Rattle.alma_tree.specs.declared.leaf.Mode.{Mode}
 
+-- a name, which is a node and one token
 pub record Name : Type 0 where
   pub node : ℕ
   pub token : ℕ
@@ -276,9 +277,11 @@ pub record Module : Type 0 where
 
 -- ---- the number of a phrase
 
+-- of an Expr
 abbrev pub expr_node : Expr → ℕ
 expr_node (expr n s c) = n
 
+-- of a Primary
 abbrev pub primary_node : Primary → ℕ
 primary_node (number n t) = n
 primary_node (literal n t) = n
@@ -288,9 +291,11 @@ primary_node (known n d) = n
 primary_node (ord n e) = n
 primary_node (chr n e) = n
 
+-- of a Desig
 abbrev pub desig_node : Desig → ℕ
 desig_node (desig n name more) = n
 
+-- of a PlainType
 abbrev pub plain_node : PlainType → ℕ
 plain_node (type_name n name) = n
 plain_node (listed n names) = n

@@ -50,19 +50,22 @@ pub record Scene : Type 0 where
   pub constant : Bool
   pub inside : Bool
 
--- a constant place, and the inside of FORALL, COMMIT, NOT or a parenthesised sequence
+-- a constant place
 abbrev pub in_constant : Scene → Scene
 in_constant s = record s { constant = true }
 
+-- the inside of FORALL, COMMIT, NOT or a parenthesised sequence
 abbrev pub inside_of : Scene → Scene
 inside_of s = record s { inside = true }
 
 -- ---- tokens
 
+-- the bytes of a token, if there is one
 abbrev pub text_of : Option Lexeme → List ℕ
 text_of None = []
 text_of (Some t) = t.text
 
+-- the bytes of the token of this index
 abbrev pub text_at : Scene → ℕ → List ℕ
 text_at s t = text_of (slice_get s.tokens t)
 
@@ -74,22 +77,26 @@ number_at s t = pos (digits_value 10 (text_at s t))
 abbrev pub between : List ℕ → List ℕ
 between text = take (length text - 2) (drop 1 text)
 
+-- the same, of the literal that is the token of this index
 abbrev pub literal_at : Scene → ℕ → List ℕ
 literal_at s t = between (text_at s t)
 
--- the line of a token
+-- the offset of a token, if there is one
 abbrev pub start_of : Option Lexeme → ℕ
 start_of None = 0
 start_of (Some t) = t.start
 
+-- the line of the token of this index
 abbrev pub line_of : Scene → ℕ → ℕ
 line_of s t = line_at s.source (start_of (slice_get s.tokens t))
 
 -- ---- shapes
 
+-- the base of a shape
 abbrev pub base : Scene → ℕ → ℕ
 base s shape = base_at s.shapes shape
 
+-- the cells of a shape
 abbrev pub cells : Scene → ℕ → ℕ
 cells s shape = cells_at s.shapes shape
 
@@ -97,16 +104,19 @@ cells s shape = cells_at s.shapes shape
 abbrev pub range : Scene → ℕ → Range
 range s shape = unwrap_or (range_at s.shapes shape) whole_range
 
+-- the shape is an array or a record
 abbrev pub is_structured : Scene → ℕ → Bool
 is_structured s shape = not (is_some (range_at s.shapes shape))
 
--- the base is INTEGER, CHAR or BOOLEAN
+-- the base is INTEGER
 abbrev pub has_integer : Scene → ℕ → Bool
 has_integer s shape = nat_eq (base s shape) integer_shape
 
+-- the base is CHAR
 abbrev pub has_char : Scene → ℕ → Bool
 has_char s shape = nat_eq (base s shape) char_shape
 
+-- the base is BOOLEAN
 abbrev pub has_boolean : Scene → ℕ → Bool
 has_boolean s shape = nat_eq (base s shape) boolean_shape
 
@@ -119,13 +129,16 @@ abbrev pub row_of : PlainShape → Option (ℕ × ℕ)
 row_of (row i e) = Some (i, e)
 row_of s = None
 
+-- the same, of the shape of this number
 abbrev pub row_at : Scene → ℕ → Option (ℕ × ℕ)
 row_at s shape = option_and_then row_of (slice_get s.shapes shape)
 
+-- the shape is a record
 abbrev pub is_record : PlainShape → Bool
 is_record (fields fs) = true
 is_record s = false
 
+-- the same, of a shape that there may not be
 abbrev pub is_record_in : Option PlainShape → Bool
 is_record_in None = false
 is_record_in (Some s) = is_record s
@@ -163,6 +176,7 @@ found_as s block (entry.Variable shape a) = variable shape.0 (root_from (level s
 found_as s block (entry.Routine r) = routine r (level s + 1 - block) (heading_of s r)
 found_as s block entry.Bad = bad
 
+-- what the declaration of this number stands for, if there is one
 abbrev pub found_at : Scene → Option ℕ → Found
 found_at s None = absent
 found_at s (Some id) = found_as s (level_of id s.blocks) (entry_at id s.blocks)

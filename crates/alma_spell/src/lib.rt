@@ -1,4 +1,4 @@
-//! A tree spelled as text.
+//! A tree spelled as the kinds of its tokens.
 #![tactic(auto)]
 
 mod module;

@@ -20,6 +20,7 @@ fn push_name_tail(trees: &[Name], out: &mut Vec<Kind>) -> Result<(), NoMemory>
     Ok(())
 }
 
+// Appends the kinds of the tokens that a list of names stands for.
 pub(crate) fn push_names(tree: &Names, out: &mut Vec<Kind>) -> Result<(), NoMemory>
     ensures pushed { OnOk result (Pushes out.old.items out.new.items
         (spell_names (view_names tree.now))) }
@@ -28,6 +29,7 @@ pub(crate) fn push_names(tree: &Names, out: &mut Vec<Kind>) -> Result<(), NoMemo
     push_name_tail(&tree.more, out)
 }
 
+// Appends the kinds of the tokens that a type stands for.
 #[cycle(spell_types)]
 pub(crate) fn push_type_node(tree: &TypeNode, out: &mut Vec<Kind>) -> Result<(), NoMemory>
     ensures pushed { OnOk result (Pushes out.old.items out.new.items

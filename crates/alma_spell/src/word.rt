@@ -57,6 +57,7 @@ impl Spelled {
     }
 }
 
+// The kind of the token of a relation.
 pub(crate) fn relation_kind(relation: Relation) -> Kind
     ensures same { result ≡ spells.relation_kind relation }
 {
@@ -70,6 +71,7 @@ pub(crate) fn relation_kind(relation: Relation) -> Kind
     }
 }
 
+// The kind of the token of an operator between terms.
 pub(crate) fn add_kind(operator: AddOperator) -> Kind
     ensures same { result ≡ spells.add_kind operator }
 {
@@ -80,6 +82,7 @@ pub(crate) fn add_kind(operator: AddOperator) -> Kind
     }
 }
 
+// The kind of the token of an operator between factors.
 pub(crate) fn mul_kind(operator: MulOperator) -> Kind
     ensures same { result ≡ spells.mul_kind operator }
 {
@@ -91,6 +94,7 @@ pub(crate) fn mul_kind(operator: MulOperator) -> Kind
     }
 }
 
+// Puts the kind of a sign, if there is one.
 pub(crate) fn put_sign(sign: Option<Sign>, out: &mut Spelled)
     ensures { Puts out.old out.new (spells.spell_sign sign) }
 {
