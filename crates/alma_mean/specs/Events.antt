@@ -99,7 +99,7 @@ pub data End : Type 0 where
   Faulted : RunFault → (line : ℕ) → End
   CutOff : End
 
--- an alternative of any flow is success
+-- how a program with these events ends: an alternative of any flow is success
 abbrev pub end_of : {A : Type 0} → Events A → End
 end_of (Visit e) = end_of e
 end_of (Print b e) = end_of e

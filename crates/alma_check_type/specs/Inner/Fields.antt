@@ -2,7 +2,7 @@
 use Rattle.std.specs.Global.{Global}
 use Rattle.std.specs.Map.{lookup}
 use Rattle.std.specs.Prelude.{◌≡◌, ℕ, Bool, true, false, ◌||◌, List, [], ◌∷◌, ◌++◌, slice_get, bytes_eq, Option, None, Some, is_some}
-use Rattle.std.specs.Prelude.{option_map, Vec, if◌then◌else◌}
+use Rattle.std.specs.Prelude.{option_map, Vec}
 use Rattle.alma_base.specs.declared.fault.CheckFault.TheVariants as fault
 use Rattle.alma_names.specs.Shapes.{PlainField}
 use Rattle.alma_scan.specs.Tokens.{Lexeme}
