@@ -19,10 +19,11 @@ use Rattle.alma_check_rules.specs.Views.{declares_view, formal_view}
 use Rattle.alma_check_type.specs.Told.{fault_of}
 use Rattle.alma_check_block.specs.declared.frame.Frame.{Frame}
 
--- formals, each None where its type is Bad, and all of them where none is
+-- formals in their order, each None where its type is Bad
 abbrev pub formals_view : List (Option Formal) → List (Option FormalOf)
 formals_view xs = map (λ o. option_map formal_view o) xs
 
+-- all formals, or None where the type of one is Bad
 abbrev pub formals_in : Option (Vec Formal Global) → Option (List FormalOf)
 formals_in v = option_map (λ x. map formal_view x.items) v
 
@@ -36,6 +37,7 @@ pub record ToldFrame : Type 0 where
   pub formals : List (Option FormalOf)
   pub variables : List ir.Global
 
+-- what is told of a frame of the rules
 abbrev pub told_frame : rules.Frame → ToldFrame
 told_frame f = record {
   fault = first f.faults;

@@ -191,7 +191,7 @@ fn has_no_value(sign: Option<Sign>, first: &Option<TypedExpr>, rest: &Option<Vec
     }
 }
 
-/// A constant sum or product that overflows or divides by zero.
+/// Whether an arithmetic sum or product in a constant place overflows or divides by zero.
 pub fn no_constant_sum(
     env: &Env,
     place: Place,
@@ -372,7 +372,7 @@ pub fn alone(first: Option<TypedExpr>, rest: Option<Vec<Behind>>) -> Option<Type
     }
 }
 
-/// One of the operators is OR.
+/// Whether one of the operators is OR.
 pub fn any_or(more: &[AddLink]) -> bool
     ensures { result ≡ nodes.any_or (terms_of more.now) }
 {
@@ -384,7 +384,7 @@ pub fn any_or(more: &[AddLink]) -> bool
     false
 }
 
-/// One of the operators is AND.
+/// Whether one of the operators is AND.
 pub fn any_and(more: &[MulLink]) -> bool
     ensures { result ≡ nodes.any_and (factors_of more.now) }
 {

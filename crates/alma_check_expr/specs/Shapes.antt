@@ -8,6 +8,7 @@ use Rattle.alma_rules.specs.declared.error.CheckError.{CheckError}
 abbrev pub pair_of : ShapeId × ℤ → ℕ × ℤ
 pair_of p = (p.0.0, p.1)
 
+-- the answer about a constant, by the number of its shape
 abbrev pub constant_in : Result (Option (ShapeId × ℤ)) CheckError → Result (Option (ℕ × ℤ)) CheckError
 constant_in (Ok v) = Ok (option_map pair_of v)
 constant_in (Err e) = Err e
@@ -16,6 +17,7 @@ constant_in (Err e) = Err e
 abbrev pub number_of : ShapeId → ℕ
 number_of s = s.0
 
+-- the answer about a type, by the number of its shape
 abbrev pub shape_in : Result (Option ShapeId) CheckError → Result (Option ℕ) CheckError
 shape_in (Ok v) = Ok (option_map number_of v)
 shape_in (Err e) = Err e

@@ -44,7 +44,7 @@ fn join_chain(
     Ok(whole)
 }
 
-/// A sum without sign and operators.
+/// Whether a sum has neither sign nor operators.
 pub fn is_one_term(sign: Option<Sign>, more: &[AddLink]) -> bool
     ensures { result ≡ one_term sign (terms_of more.now) }
 {
@@ -92,7 +92,7 @@ pub fn join_sum(
     )
 }
 
-/// A product without operators.
+/// Whether a product has no operators.
 pub fn is_one_factor(more: &[MulLink]) -> bool
     ensures { result ≡ one_factor (factors_of more.now) }
 {

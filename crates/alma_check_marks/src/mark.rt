@@ -31,7 +31,7 @@ pub fn marks_from(alloc: Global, end: u32) -> Marks
 }
 
 impl Marks {
-    /// One token.
+    /// Goes on past one token.
     pub fn token(&mut self) -> Result<(), NoMemory>
         ensures { Walks result self.old self.new places.token }
     {
@@ -44,7 +44,7 @@ impl Marks {
         }
     }
 
-    /// A node of what has been walked since a token.
+    /// Marks a node of what has been walked since a token.
     pub fn node(&mut self, node: u32, token: u32) -> Result<(), NoMemory>
         ensures { OnOk result (HasNode (marks_of self.old) (marks_of self.new) node token) }
     {
@@ -52,7 +52,7 @@ impl Marks {
         Ok(())
     }
 
-    /// A statement that begins at a token.
+    /// Marks a statement that begins at a token.
     pub(crate) fn statement(&mut self, token: u32) -> Result<(), NoMemory>
         ensures { Walks result self.old self.new (places.statement_of token) }
     {

@@ -53,7 +53,7 @@ impl Labels {
         self.spans.len()
     }
 
-    /// A value of the span is one of them.
+    /// Whether a value of the span is one of theirs.
     pub fn shares(&self, span: Span) -> bool
         ensures { result ≡ rules.shares_value (span_view span) (spans_view self.now) }
     {
@@ -63,7 +63,7 @@ impl Labels {
         shares_value(span, &self.spans)
     }
 
-    /// One more of an arm.
+    /// Notes one more label of the arm.
     pub fn note(&mut self, span: Span) -> Result<(), AllocError>
         ensures noted { OnOk result (self.new ≡ self.old ++ span ∷ []) }
     {
@@ -72,7 +72,7 @@ impl Labels {
         Ok(())
     }
 
-    /// The arm is done, and its labels stay.
+    /// Ends the arm, whose labels stay.
     pub fn settle(&mut self)
         ensures { self.new ≡ self.old }
     {
@@ -83,7 +83,7 @@ impl Labels {
         }
     }
 
-    /// The labels behind the first so many are left out.
+    /// Drops the labels behind the first `count`.
     pub fn forget(&mut self, count: usize)
         ensures { self.new ≡ take count self.old }
     {
@@ -95,7 +95,7 @@ impl Labels {
     }
 }
 
-// Where it is false, no span that is covered shares a value with this one.
+// Whether a span that is covered may share a value with this one: where it is false, none does.
 fn may_share(ends: &BTreeMap<(u32, i64), i64>, span: Span) -> bool
     requires { Rises ends.now }
     ensures { SharesNone ends.now (span_view span) result }
@@ -103,7 +103,7 @@ fn may_share(ends: &BTreeMap<(u32, i64), i64>, span: Span) -> bool
     is_reached(ends, span.base, span.range.high, span.range.low)
 }
 
-// The spans from this one on are covered too.
+// Covers the spans from this one on too.
 fn note_spans(
     ends: &mut BTreeMap<(u32, i64), i64>,
     spans: &[Span],
@@ -122,13 +122,14 @@ fn note_spans(
     Ok(())
 }
 
+// Whether two ranges have a value in common.
 fn share_value(first: Range, second: Range) -> bool
     ensures { result ≡ rules.share_value first second }
 {
     first.low <= second.high && second.low <= first.high
 }
 
-// A value of the span is one of these.
+// Whether a value of the span is one of those of the labels before it.
 fn shares_value(span: Span, earlier: &[Span]) -> bool
     ensures { result ≡ rules.shares_value (span_view span) (spans_view earlier.now) }
 {

@@ -3,7 +3,7 @@ ghost use Rattle.std.specs.Prelude.{◌≡◌, option_map, IfOk};
 ghost use Rattle.alma_rules.specs.View.{view_name};
 ghost use Rattle.alma_rules.specs.Scene.{root_from, found_as, found};
 ghost use Rattle.alma_rules.specs.Parts.{denotation};
-ghost use Rattle.alma_check_rules.specs.Views.{scene_of, found_view, headings_view, denoted_of, somewhere};
+ghost use Rattle.alma_check_rules.specs.Views.{scene_of, found_view, headings_in, denoted_of, somewhere};
 
 use crate::env::{Env, Found};
 use crate::part::{Denotation, Location};
@@ -51,7 +51,7 @@ fn root(level: usize, block: usize, access: Access) -> Result<Root, AllocError>
 impl<'e, 's> Env<'e, 's> {
     // What an entry is, whose block has this number.
     fn found_as(&self, block: usize, entry: Entry) -> Result<Found, AllocError>
-        ensures { IfOk result (λ f. found_view (headings_view self.now.headings.items) f ≡ found_as
+        ensures { IfOk result (λ f. found_view (headings_in self.now) f ≡ found_as
             (scene_of self.now somewhere) block entry) }
     {
         let level = self.scopes.depth().saturating_sub(1);
@@ -72,7 +72,7 @@ impl<'e, 's> Env<'e, 's> {
 
     /// What a name in use stands for: the declaration that is visible at its token.
     pub fn found(&self, name: &Name) -> Result<Found, AllocError>
-        ensures { IfOk result (λ f. found_view (headings_view self.now.headings.items) f ≡ found
+        ensures { IfOk result (λ f. found_view (headings_in self.now) f ≡ found
             (scene_of self.now somewhere) (view_name name.now)) }
     {
         match self.scopes.find(self.text(name.token), name.token) {
@@ -83,9 +83,8 @@ impl<'e, 's> Env<'e, 's> {
 
     /// What a designator of a bare name denotes.
     pub fn denoted(&self, alloc: Global, found: Found) -> Option<Denotation>
-        ensures { option_map (denoted_of (headings_view self.now.headings.items)) result
-            ≡ denotation (scene_of self.now somewhere) (found_view
-            (headings_view self.now.headings.items) found) }
+        ensures { option_map (denoted_of (headings_in self.now)) result
+            ≡ denotation (scene_of self.now somewhere) (found_view (headings_in self.now) found) }
     {
         match found {
             Found::Absent | Found::Bad | Found::Named(_) => None,

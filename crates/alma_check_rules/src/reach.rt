@@ -17,7 +17,7 @@ fn end_up_to(ends: &BTreeMap<(u32, i64), i64>, base: u32, low: i64) -> Option<i6
     }
 }
 
-/// One of this base begins at `low` or before, and reaches to `high` or further.
+/// Whether one of this base begins at `low` or before, and reaches to `high` or further.
 pub fn is_reached(ends: &BTreeMap<(u32, i64), i64>, base: u32, low: i64, high: i64) -> bool
     requires { Rises ends.now }
     ensures { IsReached ends.now base low high result }
@@ -48,7 +48,7 @@ fn next_within(ends: &BTreeMap<(u32, i64), i64>, base: u32, low: i64, high: i64)
     }
 }
 
-// Those that begin behind `low` and reach no further than `high` are left out.
+// Drops those that begin behind `low` and reach no further than `high`.
 fn drop_within(ends: &mut BTreeMap<(u32, i64), i64>, base: u32, low: i64, high: i64)
     requires { IsTopped ends.old base low high }
     ensures topped { IsTopped ends.new base low high }
@@ -60,7 +60,7 @@ fn drop_within(ends: &mut BTreeMap<(u32, i64), i64>, base: u32, low: i64, high: 
     }
 }
 
-/// One that begins at `low` and reaches to `high` is noted.
+/// Notes one that begins at `low` and reaches to `high`.
 pub fn note_end(
     ends: &mut BTreeMap<(u32, i64), i64>,
     base: u32,

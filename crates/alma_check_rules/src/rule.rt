@@ -27,7 +27,7 @@ pub fn pass_name(env: &Env, node: u32, found: Found) -> Result<(), Stop>
     }
 }
 
-// A designator in a constant place with selectors, or that names no constant.
+// Whether a designator stands in a constant place, and has selectors or names no constant.
 fn no_constant(place: Place, selected: bool, found: Found, env: &Env) -> bool
     ensures { result ≡ rules.no_constant (scene_of env.now place) selected
         (found_view (headings_in env.now) found) }
@@ -165,7 +165,7 @@ pub fn pass_array(env: &Env, node: u32, found: &Option<Denotation>) -> Result<()
     }
 }
 
-// An index of another base than the index type.
+// Whether an index has another base than the index type.
 fn other_index(env: &Env, found: &Option<Denotation>, typed: &Option<TypedExpr>) -> bool
     ensures { result ≡ holds (rules.other_index_of (scene_of env.now somewhere)
         (denoted_in (headings_in env.now) found.now)) (typing_in typed.now) }
@@ -420,7 +420,7 @@ pub fn pass_known(
     Ok(())
 }
 
-// The constant is one, and is a CHAR.
+// Whether there is a constant value, and it is the number of a CHAR.
 fn is_char(constant: Option<i64>) -> bool
     ensures { result ≡ holds rules.is_char constant }
 {

@@ -73,7 +73,7 @@ pub fn pass_loop_name(env: &Env, place: Place, node: u32, found: Found) -> Resul
     Ok(())
 }
 
-// A bound, or the end of a label, of another base than this shape's.
+// Whether a bound, or the end of a label, has another base than this shape.
 fn other_base(env: &Env, shape: u32, typed: &Option<TypedExpr>) -> bool
     ensures { result ≡ holds (rules.other_base (scene_of env.now somewhere) shape)
         (typing_in typed.now) }
@@ -109,7 +109,7 @@ pub fn pass_loop(
     }
 }
 
-// The constant is zero.
+// Whether the constant is zero.
 fn is_zero(constant: Option<i64>) -> bool
     ensures { result ≡ holds numbers.is_zero constant }
 {
@@ -152,7 +152,7 @@ pub fn pass_case(env: &Env, node: u32, typed: &Option<TypedExpr>) -> Result<(), 
     pass_simple(env, node, typed)
 }
 
-// A label of another base than the value of its CASE.
+// Whether a label has another base than the value of its CASE.
 fn other_label(
     env: &Env,
     case: &Option<TypedExpr>,
@@ -211,7 +211,7 @@ fn shares_with(earlier: &Labels, span: Option<Span>) -> bool
     }
 }
 
-// The two ends are of one base, and the first is above the second.
+// Whether the two ends are of one base, and the first is above the second.
 fn low_above_high(env: &Env, low: &TypedExpr, high: &TypedExpr) -> bool
     ensures { result ≡ rules.low_above_high (scene_of env.now somewhere)
         (typing_of low.now, typing_of high.now) }
@@ -277,7 +277,7 @@ fn other_result(env: &Env, typed: &Option<TypedExpr>) -> bool
     }
 }
 
-// RETURN has a value where the routine gives none, or the other way round.
+// Whether RETURN has a value where the routine gives none, or the other way round.
 fn other_form(with_value: bool, returns: Returns) -> bool
     ensures { result ≡ rules.other_form with_value (returns_view returns) }
 {

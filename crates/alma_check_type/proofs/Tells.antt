@@ -3,7 +3,6 @@ use Rattle.std.proofs.Common.{◌≡◌, ℕ, List, [], ◌∷◌, ◌++◌, Opt
 use Rattle.std.specs.Prelude.{option_map}
 use Rattle.alma_base.specs.declared.fault.CheckFault.{CheckFault}
 use Rattle.alma_rules.specs.Judgement.{BrokenRule, both_of, broken_at, unless}
-use Rattle.alma_rules.specs.Numbered as tree
 use Rattle.alma_rules.specs.Scene.{Scene}
 use Rattle.alma_rules.specs.Answers.{first}
 use Rattle.alma_rules.specs.Types.{Reading, reading_then, reading_at, reading_change, with_change}

@@ -9,6 +9,7 @@ pub record Outer : Type 0 where
   pub routine : ℕ
   pub returns : Returns
 
+-- what a scene has of its own block, which `leave_block` puts back
 abbrev pub outer_of : Scene → Outer
 outer_of s = record { declares = s.declares; routine = s.routine; returns = s.returns }
 

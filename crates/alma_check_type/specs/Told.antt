@@ -23,6 +23,7 @@ pub record Told (A : Type 0) : Type 0 where
   pub scene : Scene
   pub value : Option A
 
+-- what is told of a reading of the rules: the first of its broken rules, scene and value
 abbrev pub told : {A : Type 0} → Reading A → Told A
 told r = record { fault = first r.faults; scene = r.scene; value = r.value }
 
@@ -34,6 +35,7 @@ a_told f s v = record { fault = f; scene = s; value = v }
 abbrev pub broken_of : CodeBroken → BrokenRule
 broken_of b = record { node = b.node; fault = b.fault }
 
+-- the broken rule that one of the code stands for, where there is one
 abbrev pub fault_of : Option CodeBroken → Option BrokenRule
 fault_of b = option_map broken_of b
 
@@ -50,7 +52,7 @@ abbrev pub earlier : Option BrokenRule → Option BrokenRule → Option BrokenRu
 earlier None b = b
 earlier (Some a) b = Some a
 
--- the rules of a node, two phrases, and a value made of another
+-- a node: its rules behind those of its parts, and its value where it breaks none of its own
 abbrev pub told_at : {A : Type 0} → ℕ → (Option A → List CheckFault) → Told A → Told A
 told_at n rules t = record {
   fault = earlier t.fault (first (broken_at n (rules t.value)));
@@ -59,17 +61,20 @@ told_at n rules t = record {
       unless (rules t.value) t.value;
 }
 
+-- two phrases: the earlier broken rule, the scene behind the second, and both values
 abbrev pub told_both : {A B : Type 0} → Told A → Told B → Told (A × B)
 told_both a b = record { fault = earlier a.fault b.fault; scene = b.scene; value = both_of a.value b.value }
 
+-- a phrase, with a value made of its own
 abbrev pub told_with : {A B : Type 0} → (A → B) → Told A → Told B
 told_with f t = record { fault = t.fault; scene = t.scene; value = option_map f t.value }
 
--- a value that changes the scene
+-- a value with the scene that it changes; where it is Bad the scene stays as it is
 abbrev pub told_changed : {B : Type 0} → Option BrokenRule → Scene → Option (Scene × B) → Told B
 told_changed fault s None = record { fault = fault; scene = s; value = None }
 told_changed fault s (Some p) = record { fault = fault; scene = p.0; value = Some p.1 }
 
+-- a phrase, with a value made of its own that changes the scene
 abbrev pub told_change : {A B : Type 0} → (Scene → A → Scene × B) → Told A → Told B
 told_change f t = told_changed t.fault t.scene (option_map (f t.scene) t.value)
 
@@ -92,9 +97,11 @@ join p = p.0 ++ p.1
 abbrev pub onward : {A : Type 0} → Option BrokenRule → Option (List A) → Told (List A) → Told (List A)
 onward fault value t = record { fault = earlier fault t.fault; scene = t.scene; value = option_map join (both_of value t.value) }
 
+-- the numbers in a vector
 abbrev pub items_of : Vec ℕ Global → List ℕ
 items_of v = v.items
 
+-- the numbers in a vector, where none is Bad
 abbrev pub items_in : Option (Vec ℕ Global) → Option (List ℕ)
 items_in v = option_map items_of v
 
@@ -104,10 +111,11 @@ items_in v = option_map items_of v
 abbrev pub alone : RuleFormed → List ℕ
 alone f = number_in f ∷ []
 
--- an index type, by its number and as a list of that
+-- an index type, by its number
 abbrev pub told_number : ℕ → Told RuleFormed → Told ℕ
 told_number n t = told_with number_in (told_at n (index_type_rules t.scene) t)
 
+-- an index type, as the list of its number alone
 abbrev pub told_index : ℕ → Told RuleFormed → Told (List ℕ)
 told_index n t = told_with alone (told_at n (index_type_rules t.scene) t)
 
@@ -115,7 +123,7 @@ told_index n t = told_with alone (told_at n (index_type_rules t.scene) t)
 abbrev pub told_type : ℕ → Told (List ℕ × RuleFormed) → Told ℕ
 told_type n t = told_with number_in (told_at n size_rules (told_change rows_of t))
 
--- a subrange, of its ends
+-- the rules that a subrange breaks: ends of different bases, or the low one above the high one
 abbrev pub pair_rules : Scene → Bound × Bound → List CheckFault
 pair_rules s p =
     when (not (nat_eq (base s p.0.shape) (base s p.1.shape))) fault.TypeMismatch
@@ -126,13 +134,16 @@ abbrev pub first_rule : List CheckFault → Option CheckFault
 first_rule [] = None
 first_rule (f ∷ fs) = Some f
 
+-- the same where an end may be Bad, and then it breaks none
 abbrev pub bounds_rules : Scene → Option (Bound × Bound) → List CheckFault
 bounds_rules s None = []
 bounds_rules s (Some p) = pair_rules s p
 
+-- the scene with the subrange of two ends, and its shape, unless it is past a limit
 abbrev pub sub_of : Scene → Bound × Bound → Scene × RuleFormed
 sub_of s p = subrange_from s (base s p.0.shape) p.0.constant p.1.constant
 
+-- a subrange: the rules of its ends, and its shape
 abbrev pub told_sub : ℕ → Told (Bound × Bound) → Told RuleFormed
 told_sub n t = told_change sub_of (told_at n (bounds_rules t.scene) t)
 

@@ -17,7 +17,7 @@ use alma_names::{Entry, ShapeId};
 use alma_tree::{Name, Names};
 use std::alloc::Global;
 
-/// A name that its block declares earlier in the text.
+/// The broken rule of a name that its block declares earlier in the text.
 pub fn redeclared(reader: &Reader, name: &Name) -> Option<BrokenRule>
     ensures { fault_of result ≡ first (broken_at name.now.node
         (types.redeclaration_rules reader.now (view_name name.now))) }
@@ -31,7 +31,7 @@ pub fn redeclared(reader: &Reader, name: &Name) -> Option<BrokenRule>
     })
 }
 
-// The first of some names that their block declares earlier in the text.
+// The broken rule of the first of some names that their block declares earlier in the text.
 fn redeclared_in(reader: &Reader, names: &[Name]) -> Option<BrokenRule>
     ensures { fault_of result ≡ first (types.redeclared_all reader.now
         (names_of names.now)) }

@@ -19,8 +19,7 @@ pub enum Measure {
     TextBytes,
 }
 
-/// How many statements a list has, with those inside them; NoMemory where a u64 does not hold their
-/// number.
+/// How many statements a list has, with those inside them; NoMemory where there are 2^64-1 or more.
 #[tactic(auto, using(crate::proofs::Counted::statements_amount))]
 pub fn stmts_inside(body: &[Stmt]) -> Result<usize, NoMemory>
     ensures { IfOk result (λ n. n ≡ stmt_count (stmts_phrases (stmts_list body.now))) }
@@ -28,7 +27,7 @@ pub fn stmts_inside(body: &[Stmt]) -> Result<usize, NoMemory>
     exact(sum_stmts(Measure::Statements, body))
 }
 
-/// How many statements stand inside a designator; NoMemory where a u64 does not hold their number.
+/// How many statements stand inside a designator; NoMemory where there are 2^64-1 or more.
 #[tactic(auto, using(crate::proofs::Counted::statements_amount))]
 pub fn desig_inside(desig: &Desig) -> Result<usize, NoMemory>
     ensures { IfOk result (λ n. n ≡ stmt_count (desig_phrases (desig_of desig.now))) }

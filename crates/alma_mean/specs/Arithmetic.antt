@@ -22,11 +22,11 @@ abbrev pub fault_unless : {A : Type 0} → RunFault → Bool → (Unit {0} → E
 fault_unless f true k = k tt
 fault_unless f false k = Fault f 0
 
--- goes on with a number of the range
+-- goes on where the number is in the range, or ends in fault Range
 abbrev pub check_range : {A : Type 0} → Range → ℤ → (Unit {0} → Events A) → Events A
 check_range range n k = fault_unless fault.Range (within range n) k
 
--- a number, where it is one of INTEGER
+-- a number, or fault Overflow where it is none of INTEGER
 abbrev pub check_integer : Store → ℤ → Events ℤ
 check_integer s n = fault_unless fault.Overflow (is_integer n) (λ _. one s n)
 

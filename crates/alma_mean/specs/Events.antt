@@ -12,9 +12,9 @@ pub data Flow (A : Type 0) : Type 0 where
   Go : A → Flow A
   Return : Option ℤ → Flow A
 
--- a list of events, of which an alternative that goes on yields an A; it closes with one end, a
--- fault with the line where it stands, or 0 before that is known. Fail says that there are no more
--- alternatives, Cut that the level was too low to say more
+-- a list of events, of which an alternative that goes on yields an A. It closes with one end: Fail,
+-- there are no more alternatives; Fault, with the line where it stands, or 0 before that is known;
+-- Cut, the level was too low to say more
 pub data Events (A : Type 0) : Type 0 where
   Visit : Events A → Events A
   Print : List ℕ → Events A → Events A
@@ -99,7 +99,7 @@ pub data End : Type 0 where
   Faulted : RunFault → (line : ℕ) → End
   CutOff : End
 
--- an alternative of any flow is success
+-- how a program with these events ends: an alternative of any flow is success
 abbrev pub end_of : {A : Type 0} → Events A → End
 end_of (Visit e) = end_of e
 end_of (Print b e) = end_of e

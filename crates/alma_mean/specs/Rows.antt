@@ -69,7 +69,8 @@ bind_cell s p (Number a) range n = succeed_if s (int_eq a n)
 bind_cell s p Unknown range n = check_range range n (λ _. one (put_at s p (Number n)) tt)
 bind_cell s p (At q) range n = check_range range n (λ _. one (put_at s p (Number n)) tt)
 
--- two cells: where one is known it is as above, and where neither is, fault Unknown
+-- two cells: where one is known the other is taken against its number, as by `bind_cell`; where
+-- neither is, fault Unknown
 abbrev pub unify_cells : Store → Place → Cell → Range → Place → Cell → Range → Events NoYield
 unify_cells s p (Number a) r q c r' = bind_cell s q c r' a
 unify_cells s p Unknown r q (Number b) r' = bind_cell s p Unknown r b
@@ -173,8 +174,8 @@ forall_row then_do s carry Cut = Cut
 
 -- ---- READ
 
--- the size of the number in a cell, 0 where there is none; a number that stands here is never below
--- 0
+-- the number in a cell without its sign, or 0 where there is none. It is asked of the input
+-- position alone, which is never below 0
 abbrev pub nat_in : Cell → ℕ
 nat_in (Number n) = nat_abs n
 nat_in Unknown = 0
@@ -196,7 +197,8 @@ store_number s p range found.NoNumber = Fail
 store_number s p range found.TooLarge = Fault fault.ReadRange 0
 store_number s p range (found.Number n place) = check_range range n (λ _. one (put_at (set_position s place) p (Number n)) tt)
 
--- the first byte of the input that is left
+-- the first byte of the input that is left is stored, and the position set behind it. At the end of
+-- the input it fails; a byte outside the variable's type is fault Range
 abbrev pub store_byte : Store → Place → Range → ℕ → List ℕ → Events NoYield
 store_byte s p range place [] = Fail
 store_byte s p range place (c ∷ rest) = check_range range (pos c) (λ _. one (put_at (set_position s (suc place)) p (Number (pos c))) tt)

@@ -84,7 +84,7 @@ abbrev pub up_from : Store → (frame links : ℕ) → ℕ
 up_from s frame zero = frame
 up_from s frame (suc links) = up_from s (get_or s frame no_frame).link links
 
--- and from the frame on top
+-- the number of the frame to which so many links lead from the frame on top
 abbrev pub up : Store → (links : ℕ) → ℕ
 up s links = up_from s (top s) links
 

@@ -23,6 +23,7 @@ pub enum Entry {
     Constant(ShapeId, i64),
     /// A type.
     Named(ShapeId),
+    /// A variable: its shape, and how it is reached.
     Variable(ShapeId, Access),
     /// A procedure, by its number.
     Routine(u32),

@@ -1,11 +1,11 @@
 -- What the frame of a block and a routine without its body stand for.
-use Rattle.std.specs.Prelude.{◌≡◌, ℕ, ◌-◌, List, [], map, option_map}
+use Rattle.std.specs.Prelude.{◌≡◌, ℕ, ◌-◌, List, [], map}
 use Rattle.alma_ir.specs.View.{global_of}
 use Rattle.alma_rules.specs.Numbered as tree
 use Rattle.alma_rules.specs.Modules.{result_in}
 use Rattle.alma_rules.specs.Scene.{Scene, text_at, level, line_of}
 use Rattle.alma_rules.specs.Decls.{Frame}
-use Rattle.alma_check_rules.specs.Views.{formal_view}
+use Rattle.alma_check_block.specs.Shown.{formals_view}
 use Rattle.alma_check_block.specs.declared.frame.Frame.{Frame as CodeFrame}
 use Rattle.alma_check_stmt.specs.declared.body.Outline.{Outline}
 
@@ -18,7 +18,7 @@ frame_in s x =
       slots = x.slots;
       declared = x.declared;
       params = x.params.items;
-      formals = map (λ o. option_map formal_view o) x.formals.items;
+      formals = formals_view x.formals.items;
       variables = map global_of x.variables.items;
     }
 

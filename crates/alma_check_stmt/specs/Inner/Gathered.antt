@@ -38,10 +38,11 @@ gather t count j =
       scene = with_shapes t.scene j.shapes;
     }
 
--- the procedures of a block, and one declaration
+-- the procedures among the declarations of a block, with those inside them
 abbrev pub through_decls : Stage → tree.DeclTail → Stage
 through_decls t decls = gather t (decls_routines decls) (judge_bodies t.scene t.next decls)
 
+-- the procedure that one declaration may be, with those inside it
 abbrev pub through_decl : Stage → tree.Decl → Stage
 through_decl t decl = gather t (decl_routines decl) (judge_decl t.scene t.next decl)
 
@@ -50,20 +51,23 @@ abbrev pub through_block : Stage → Frame → tree.Name → (outer end : ℕ) �
 through_block t f name outer end decls body =
     gather t (decls_routines decls) (routine_at f name outer end (judge_bodies t.scene t.next decls) body (judge_body f body))
 
--- a rule that is broken behind, and the least of some
+-- a stage, with a rule that may be broken behind it
 abbrev pub with_fault : Stage → Option BrokenRule → Stage
 with_fault t fault = record t { fault = better t.fault fault; routines = unless_broken (better t.fault fault) t.routines }
 
+-- a stage, with the least of some rules that are broken behind it
 abbrev pub with_least : Stage → List BrokenRule → Stage
 with_least t faults = with_fault t (least faults)
 
--- a block whose declarations are not read yet, in a frame with its parameters
+-- a frame without its broken rules
 abbrev pub quiet : Frame → Frame
 quiet f = record f { faults = [] }
 
+-- a stage behind the declarations of a block: their broken rules noted, in their scene
 abbrev pub read_stage : Stage → Frame → Stage
 read_stage t g = record (with_least t g.faults) { scene = g.scene }
 
+-- a block, of its frame behind the declarations, with the rules that are broken in these
 abbrev pub through_read : Stage → Frame → tree.Name → (outer end : ℕ) → tree.DeclTail → Option tree.Stmts → Stage
 through_read t g name outer end decls body = through_block (read_stage t g) (quiet g) name outer end decls body
 
@@ -84,16 +88,18 @@ IsEmptyInside headings r (tree.type_decl n xs) = Unit {0}
 IsEmptyInside headings r (tree.var_decl n xs) = Unit {0}
 IsEmptyInside headings r (tree.procedure n name params result b end_name) = AreEmpty headings (r + 1) (block_routines b)
 
+-- no routine inside one of the procedures has a heading
 unfoldable pub AreEmptyInside : List (Option Heading) → (r : ℕ) → tree.DeclTail → Type 0
 AreEmptyInside headings r tree.no_decl = Unit {0}
 AreEmptyInside headings r (tree.more_decl d rest) = IsEmptyInside headings r d × AreEmptyInside headings (r + decl_routines d) rest
 
--- the numbers of the nodes rise
+-- the numbers of the nodes of declarations rise
 pub record AreRising (decls : tree.DeclTail) : Type 0 where
   pub low : ℕ
   pub high : ℕ
   pub rise : rise_decls decls low high
 
+-- the numbers of the nodes of a body rise
 pub record IsRisingBody (body : Option tree.Stmts) : Type 0 where
   pub low : ℕ
   pub high : ℕ
@@ -121,6 +127,7 @@ pub record IsReady (source : List ℕ) (s : Scene) (next : ℕ) (decls : tree.De
 
 -- ---- the routine of a block
 
+-- the routines of both lists, where no routine is Bad
 abbrev pub joined_lists : Option (List ir.Routine) → Option (List ir.Routine) → Option (List ir.Routine)
 joined_lists a b = option_map joined_routines (both_of a b)
 

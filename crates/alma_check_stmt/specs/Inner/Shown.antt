@@ -12,6 +12,7 @@ abbrev pub unless_bad : Bool → List ir.Routine → Option (List ir.Routine)
 unless_bad true rs = None
 unless_bad false rs = Some rs
 
+-- the routines that are checked, where none is Bad
 abbrev pub routines_in : Checked → Option (List ir.Routine)
 routines_in x = unless_bad x.is_bad (map routine_of x.routines.items)
 

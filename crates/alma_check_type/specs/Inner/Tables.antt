@@ -4,23 +4,25 @@ use Rattle.std.specs.Prelude.{ℕ, Bool, true, false, List, map, slice_get, Opti
 use Rattle.alma_names.specs.Shapes.{PlainShape, PlainField, is_index}
 use Rattle.alma_rules.specs.Types.{ShapeOrLimit, formed, too_large}
 
--- a truth that a test shows
+-- P where the flag is true, and else what always holds
 abbrev pub Shows : Bool → Type 0 → Type 0
 Shows true P = P
 Shows false P = Unit {0}
 
--- a shape of the table that may index an array
+-- there is a shape, and it may index an array
 abbrev pub may_index_as : Option PlainShape → Bool
 may_index_as None = false
 may_index_as (Some s) = is_index s
 
+-- the shape of this number is in the table, and may index an array
 abbrev pub may_index : List PlainShape → ℕ → Bool
 may_index t i = may_index_as (slice_get t i)
 
--- the fields of these names with these shapes
+-- the field of a name with a shape, not placed yet
 abbrev pub field_view : Vec ℕ Global × ℕ → PlainField
 field_view e = record { name = e.0.items; offset = 0; shape = e.1 }
 
+-- the fields of names with their shapes, in order
 abbrev pub fields_view : List (Vec ℕ Global × ℕ) → List PlainField
 fields_view es = map field_view es
 
