@@ -42,7 +42,7 @@ impl<'a> Model for Earlier<'a> {
 }
 
 impl<'a> Earlier<'a> {
-    // The past of no notes.
+    // The frames from before no note: those of now.
     fn start(alloc: Global, frames: &'a Frames) -> Earlier<'a>
         ensures now { result.now ≡ frames.now }
         ensures before { result.before ≡ frames.now }

@@ -81,7 +81,7 @@ pub record AreNumbers (now : List PlainFrame) (frame first count : ℕ) : Type 0
   pub few : 1 ≤ count → first + count < 2 ^ 32
   pub each : (k : ℕ) → k < count → HasNumberIn now frame (first + k)
 
--- such a place, or no place yet
+-- a place of l number slots of a live frame, or no place yet
 abbrev pub HoldsCells : List PlainFrame → ℕ → Cell → Type 0
 HoldsCells now l (cell.Place p) = IsCells now l p
 HoldsCells now l cell.Unset = Unit {0}

@@ -12,6 +12,7 @@ use alma_verify::Verified;
 pub trait CodeView {
     ghost code: { Self → PlainCode };
 
+    /// The head of a routine, as it is read.
     type Routine: Head + Copy;
 
     /// How many instructions it has.

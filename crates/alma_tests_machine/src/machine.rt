@@ -77,7 +77,7 @@ const PARTS: [Instr; 21] = [
     Instr::Fault { number: 5 },
 ];
 
-/// A code, how its run ends, and in how many steps.
+// A code, how its run ends, and in how many steps.
 struct Row {
     instrs: &'static [Instr],
     end: RunEnd,
