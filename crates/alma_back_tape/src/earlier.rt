@@ -42,7 +42,7 @@ impl<'a> Model for Earlier<'a> {
 }
 
 impl<'a> Earlier<'a> {
-    // The past of no notes.
+    // The frames from before no note: those of now.
     fn start(alloc: Global, frames: &'a Frames) -> Earlier<'a>
         ensures now { result.now ≡ frames.now }
         ensures before { result.before ≡ frames.now }
@@ -112,7 +112,7 @@ impl<'a> Earlier<'a> {
         }
     }
 
-    // The cell of a place that was a live number slot.
+    // The cell of a place that was a live number slot before the notes.
     fn number(&self, place: SlotPlace) -> Option<Cell>
         requires before { AreWhole self.now.before }
         requires now { AreWhole self.now.now }
@@ -173,7 +173,7 @@ impl<'a> Earlier<'a> {
         self.frames.at(frame).slots()
     }
 
-    // Adds the changes in so many frames.
+    // Adds the changes in so many frames, from one on.
     fn push_frames(
         &self,
         found: &mut Vec<(SlotPlace, Cell)>,

@@ -37,7 +37,7 @@ use Rattle.alma_code_laws.proofs.Ready.{Ready, has_slot, number_at_is}
 use Rattle.alma_code_laws.proofs.Acts.{left_ready, call_rule, holds_of_call, Obeys, slots, entries, frame_live}
 use Rattle.alma_code_laws.proofs.Links.{link_word}
 use Rattle.alma_code.proofs.Heads.{number_is, link_of_is, place_of_is}
-use Rattle.alma_machine_acts.specs.Calls.{IsSpot, HoldsArgument, HasArgument, HasArguments, CallsBack}
+use Rattle.alma_machine_acts.specs.Calls.{IsArgumentPlace, HoldsArgument, HasArgument, HasArguments, CallsBack}
 use Rattle.alma_machine.specs.Needs.{Needs, Computes}
 use Rattle.alma_machine_acts.specs.Rows.{HasNumber, HasPlace, HasMark, width, HoldsPlace, LeadsTo}
 use Rattle.alma_machine.proofs.Counting.{few_kinds}
@@ -89,7 +89,7 @@ module _ (code : PlainCode) (sound : IsSound code) (r : ℕ) (s : State) (h : Re
       subst (λ m. IsCell code (routines_of s.now) f m) x (c (suc k) (omega arith))))
 
   -- a place that fits
-  spot_of : (n : ℕ) (p : CellPlace) → p.len ≡ n → IsPlace code (routines_of s.now) (top s) p → IsSpot s.now n p
+  spot_of : (n : ℕ) (p : CellPlace) → p.len ≡ n → IsPlace code (routines_of s.now) (top s) p → IsArgumentPlace s.now n p
   spot_of n p e fits =
       let lf = frame_live code r s p h fits in
       record {

@@ -13,7 +13,7 @@ pub record MakesQuietly (old new : State) (wanted : StepResult) : Type 0 where
   pub step : quiet_step new ≡ wanted
   pub kept : KeepsLive old new
 
--- it made the step, or nothing has happened
+-- it made the step, which has nothing to tell, or nothing has happened
 abbrev pub Quietly : Bool → (old new : State) → StepResult → Type 0
 Quietly true old new wanted = MakesQuietly old new wanted
 Quietly false old new wanted = new ≡ old
@@ -24,7 +24,7 @@ pub record MakesQuickly (old new : State) (wanted : StepResult) : Type 0 where
   pub silent : wanted.printed ≡ []
   pub kept : KeepsLive old new
 
--- it made the step, or nothing has happened
+-- it made the step, which printed nothing, or nothing has happened
 abbrev pub Quickly : Bool → (old new : State) → StepResult → Type 0
 Quickly true old new wanted = MakesQuickly old new wanted
 Quickly false old new wanted = new ≡ old
@@ -38,7 +38,7 @@ pub record StepsOnce (old new : State) (wanted : StepResult) : Type 0 where
   pub choices : new.choices ≤ old.choices + 1
   pub fails : new.fails ≤ old.fails + 1
 
--- it made the step, or nothing has happened
+-- it made the step, which printed nothing, and counted it, or nothing has happened
 abbrev pub StepsQuickly : Bool → (old new : State) → StepResult → Type 0
 StepsQuickly true old new wanted = StepsOnce old new wanted
 StepsQuickly false old new wanted = new ≡ old

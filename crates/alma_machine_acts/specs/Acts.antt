@@ -34,7 +34,7 @@ abbrev pub Acts : {M E : Type 0} → (picture : M → MachinePicture) → (old n
 Acts picture old new (Ok answer) wanted = Makes picture old new answer wanted
 Acts picture old new (Err _) wanted = KeepsState picture old new
 
--- the same of one that may print
+-- it made the step and printed these bytes, or nothing has happened
 abbrev pub ActsWith : {M E : Type 0} → (picture : M → MachinePicture) → (old new : Registers M) → List ℕ → Result Step E → StepResult
     → Type 0
 ActsWith picture old new bytes (Ok answer) wanted = MakesWith picture old new bytes answer wanted

@@ -19,7 +19,7 @@ use Rattle.alma_code.specs.Plain.{PlainCode}
 use Rattle.alma_machine_acts.specs.Rows.{HasNumber}
 
 -- a place that can be the argument of a parameter for places of n cells
-pub record IsSpot (now : List PlainFrame) (n : ℕ) (p : CellPlace) : Type 0 where
+pub record IsArgumentPlace (now : List PlainFrame) (n : ℕ) (p : CellPlace) : Type 0 where
   pub len : p.len ≡ n
   pub live : IsLive now p
   pub numbers : numbers_at n now p.frame p.slot ≡ true
@@ -31,11 +31,11 @@ HoldsArgument now param.Value n (cell.Int v) = Unit {0}
 HoldsArgument now param.Mix n cell.Unknown = Unit {0}
 HoldsArgument now param.Mix n cell.Unset = Unit {0}
 HoldsArgument now param.Mix n (cell.Int v) = Unit {0}
-HoldsArgument now param.Mix n (cell.Place p) = IsSpot now 1 p
+HoldsArgument now param.Mix n (cell.Place p) = IsArgumentPlace now 1 p
 HoldsArgument now param.Place n cell.Unset = Unit {0}
-HoldsArgument now param.Place n (cell.Place p) = IsSpot now n p
+HoldsArgument now param.Place n (cell.Place p) = IsArgumentPlace now n p
 HoldsArgument now param.Cells n cell.Unset = Unit {0}
-HoldsArgument now param.Cells n (cell.Place p) = IsSpot now n p
+HoldsArgument now param.Cells n (cell.Place p) = IsArgumentPlace now n p
 HoldsArgument now param.Link n cell.Unset = Unit {0}
 HoldsArgument now param.Link n (cell.Place p) = (p.slot ≡ 0) × (p.len ≡ 0) × IsLive now p
 HoldsArgument now _ n _ = ⊥

@@ -26,14 +26,14 @@ abbrev pub MeetsOn : Met → State → State → Type 0
 MeetsOn Holds old new = GoesOn old new
 MeetsOn (Ends step) old new = KeepsOn step old new
 
--- it settled the equation
+-- the equation goes on or ends as the word says, no step is counted, and what the memory can go back to stays
 pub record Settles {M : Type 0} (picture : M → MachinePicture) (old new : Registers M) (met : Met)
     (word : (State → StepResult) → StepResult) : Type 0 where
   pub meets : Meets met word (state_of picture new)
   pub kept : MeetsOn met (state_of picture old) (state_of picture new)
   pub past : KeepsPast picture old new
 
--- it settled the equation, or nothing has happened
+-- the equation was settled so, or nothing has happened
 abbrev pub Equates : {M E : Type 0} → (picture : M → MachinePicture) → (old new : Registers M) → Result Met E
     → ((State → StepResult) → StepResult) → Type 0
 Equates picture old new (Ok met) word = Settles picture old new met word

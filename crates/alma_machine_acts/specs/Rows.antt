@@ -65,7 +65,7 @@ HasNumber now n = HasNumberIn now (length now - 1) n
 abbrev pub KeepsNumbers : (old new : List PlainFrame) → Type 0
 KeepsNumbers old new = (frame n : ℕ) → HasNumberIn old frame n → HasNumberIn new frame n
 
--- how many cells the places of a slot have
+-- how many cells the places of a slot of the top frame have
 abbrev pub width : List PlainFrame → ℕ → ℕ
 width now n = place_length (slice_get (last_frame now).kinds n)
 
@@ -81,7 +81,7 @@ pub record AreNumbers (now : List PlainFrame) (frame first count : ℕ) : Type 0
   pub few : 1 ≤ count → first + count < 2 ^ 32
   pub each : (k : ℕ) → k < count → HasNumberIn now frame (first + k)
 
--- such a place, or no place yet
+-- a place of l number slots of a live frame, or no place yet
 abbrev pub HoldsCells : List PlainFrame → ℕ → Cell → Type 0
 HoldsCells now l (cell.Place p) = IsCells now l p
 HoldsCells now l cell.Unset = Unit {0}
@@ -89,18 +89,18 @@ HoldsCells now l cell.Unknown = ⊥
 HoldsCells now l (cell.Int v) = ⊥
 HoldsCells now l (cell.Mark h) = ⊥
 
--- a slot for places
+-- a slot of the top frame that holds a place of as many number slots as its kind says, or none yet
 pub record HasCells (now : List PlainFrame) (n : ℕ) : Type 0 where
   pub some : 1 ≤ length now
   pub below : n < length (last_frame now).cells
   pub content : HoldsCells now (width now n) (get_or (last_frame now).cells n cell.Unset)
 
--- a slot for places of one cell
+-- such a slot, for places of one cell
 pub record HasOneCell (now : List PlainFrame) (n : ℕ) : Type 0 where
   pub place : HasCells now n
   pub one : width now n ≡ 1
 
--- a place slot
+-- a place slot of the top frame
 pub record HasPlace (now : List PlainFrame) (n : ℕ) : Type 0 where
   pub some : 1 ≤ length now
   pub below : n < length (last_frame now).cells
@@ -120,11 +120,11 @@ pub record HasPlaceIn (now : List PlainFrame) (frame n : ℕ) : Type 0 where
   pub below : n < length (get_or now frame no_frame).cells
   pub content : HoldsPlace (get_or (get_or now frame no_frame).cells n cell.Unset)
 
--- a link slot that is read
+-- a slot of the top frame that is read for a link: for places or links
 abbrev pub HasLink : List PlainFrame → ℕ → Type 0
 HasLink now n = HasPlaceIn now (length now - 1) n
 
--- a link slot that is written
+-- a link slot of the top frame, to be written
 pub record HasLinkTo (now : List PlainFrame) (n : ℕ) : Type 0 where
   pub some : 1 ≤ length now
   pub below : n < length (last_frame now).cells
@@ -142,7 +142,7 @@ HoldsMark cell.Unknown = ⊥
 HoldsMark (cell.Int v) = ⊥
 HoldsMark (cell.Place p) = ⊥
 
--- a mark slot
+-- a mark slot of the top frame that holds a height, or none yet
 pub record HasMark (now : List PlainFrame) (n : ℕ) : Type 0 where
   pub some : 1 ≤ length now
   pub below : n < length (last_frame now).cells

@@ -160,6 +160,7 @@ fn give_back<M: MachineMemory, V: CodeView>(
         Ok(number) => number,
         Err(fault) => return Ok(registers.end(End::Fault(fault))),
     };
+    // A note for the frame that is left, and one for the slot of the caller.
     registers.memory.reserve(0, 2)?;
     let back = match registers.memory.leave() {
         Ok(back) => back,

@@ -109,6 +109,7 @@ pub fn forall<M: MachineMemory>(
         (λ _. answer_of_push (with_slot (state_after_push s choice.Forall resume) slot
         (cell.Mark (length s.held + 1))))) }
 {
+    // An entry, and a note for the mark slot.
     registers.memory.reserve(1, 1)?;
     let frame = registers.memory.frames() - 1;
     match registers.memory.choose(ChoiceKind::Forall, resume) {

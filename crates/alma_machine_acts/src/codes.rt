@@ -1,4 +1,4 @@
-// The readers of a code, as the tables of a code in memory or the view of an object give them.
+// The readers of a code, as a verified object gives them where it lies.
 ghost use Rattle.std.specs.Prelude.{◌≡◌, ◌<◌, length, map, slice_get, option_map, Some};
 ghost use Rattle.alma_code.specs.Plain.{PlainCode, start_at};
 ghost use Rattle.alma_object.specs.View.{instr_of_record};
@@ -12,6 +12,7 @@ use alma_verify::Verified;
 pub trait CodeView {
     ghost code: { Self → PlainCode };
 
+    /// The head of a routine, as it is read.
     type Routine: Head + Copy;
 
     /// How many instructions it has.

@@ -74,6 +74,7 @@ fn take<M: MachineMemory>(
             if number < range.low || range.high < number {
                 return Ok(registers.end(End::Fault(RunFault::Range)));
             }
+            // A note for the input position, and one for the cell.
             registers.memory.reserve(0, 2)?;
             match registers.memory.write(0, 0, Cell::Int(behind as i64)) {
                 Ok(()) => (),

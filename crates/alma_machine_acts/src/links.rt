@@ -11,7 +11,7 @@ use alma_code::{Cell, CellPlace, End, Step};
 use alma_memory::MachineMemory;
 
 impl<M: MachineMemory> Registers<M> {
-    /// The place or the link in a slot of a frame.
+    // The place or the link in a slot of a frame.
     #[tactic(auto, using(crate::proofs::Held::helds))]
     fn held(&self, frame: u32, slot: u32) -> Result<CellPlace, RunFault>
         requires { HasPlaceIn (M.picture self.now.memory).now frame slot }

@@ -32,7 +32,7 @@ fn cells_before(number: i64, range: &Range, part: u32) -> u32
 }
 
 impl<M: MachineMemory> Registers<M> {
-    /// How many cells the places of a place slot have.
+    // How many cells the places of a place slot have.
     #[inline(always)]
     #[tactic(auto, using(crate::proofs::Parts::place_there))]
     fn place_length(&self, slot: u32) -> u32

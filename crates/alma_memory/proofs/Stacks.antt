@@ -9,7 +9,7 @@ use Rattle.alma_code.specs.Picture.{PlainFrame, PlainEntry, no_entry, top_of, en
 use Rattle.alma_code.specs.Picture.{entry_of_kind_after_pop}
 use Rattle.alma_memory_rewind.specs.PlainRewind.{top_copy}
 use Rattle.alma_memory.specs.declared.stack.Entry.{Entry}
-use Rattle.alma_memory.specs.Inner.Gain.{no_saved}
+use Rattle.alma_memory.specs.Inner.Gain.{no_stack_entry}
 use Rattle.alma_memory.specs.Inner.Stack.{entry_with, stack_of}
 
 pub stack-length : (es : List Entry) (hs : List (List PlainFrame)) → length es ≡ length hs → length (stack_of es hs) ≡ length es
@@ -31,7 +31,7 @@ stack-take (suc n) (x ∷ es) [] = refl
 stack-take (suc n) (x ∷ es) (h ∷ hs) = ap (λ v. entry_with x h ∷ v) (stack-take n es hs)
 
 pub stack-at : (i : ℕ) (es : List Entry) (hs : List (List PlainFrame)) → length es ≡ length hs → i < length es
-    → get_or (stack_of es hs) i no_entry ≡ entry_with (get_or es i no_saved) (get_or hs i [])
+    → get_or (stack_of es hs) i no_entry ≡ entry_with (get_or es i no_stack_entry) (get_or hs i [])
 stack-at i [] hs e l = absurd (omega (arith, l))
 stack-at i (x ∷ es) [] e l = absurd (omega (arith, e))
 stack-at zero (x ∷ es) (h ∷ hs) e l = refl
@@ -46,11 +46,11 @@ stack-set (suc i) (y ∷ es) (h ∷ hs) x e = ap (λ v. entry_with y h ∷ v) (s
 
 -- the top entry
 pub stack-top : (es : List Entry) (hs : List (List PlainFrame)) → length es ≡ length hs → 1 ≤ length es
-    → top_of (stack_of es hs) ≡ entry_with (get_or es (length es - 1) no_saved) (top_copy hs)
+    → top_of (stack_of es hs) ≡ entry_with (get_or es (length es - 1) no_stack_entry) (top_copy hs)
 stack-top es hs e l =
     ap (λ n. get_or (stack_of es hs) (n - 1) no_entry) (stack-length es hs e)
     ∙ (stack-at (length es - 1) es hs e (omega (arith, l))
-    ∙ ap (λ n. entry_with (get_or es (length es - 1) no_saved) (get_or hs (n - 1) [])) e)
+    ∙ ap (λ n. entry_with (get_or es (length es - 1) no_stack_entry) (get_or hs (n - 1) [])) e)
 
 -- the last entry is the top one
 pub stack-last : (es rest : List Entry) (x : Entry) (hs : List (List PlainFrame)) → es ≡ rest ++ x ∷ [] → length es ≡ length hs
@@ -58,13 +58,13 @@ pub stack-last : (es rest : List Entry) (x : Entry) (hs : List (List PlainFrame)
 stack-last es rest x hs p e =
     let wide : length es ≡ length rest + 1 = ap length p ∙ length_push rest x in
     let n : length es - 1 ≡ length rest = omega (arith, wide) in
-    let at : get_or es (length es - 1) no_saved ≡ x = ap (λ k. get_or es k no_saved) n
-    ∙ (ap (λ v. get_or v (length rest) no_saved) p ∙ get_or_push rest x no_saved (length rest) refl) in
+    let at : get_or es (length es - 1) no_stack_entry ≡ x = ap (λ k. get_or es k no_stack_entry) n
+    ∙ (ap (λ v. get_or v (length rest) no_stack_entry) p ∙ get_or_push rest x no_stack_entry (length rest) refl) in
     stack-top es hs e (omega (arith, wide)) ∙ ap (λ y. entry_with y (top_copy hs)) at
 
 -- the entry at a height
 pub stack-entry : (es : List Entry) (hs : List (List PlainFrame)) (h : ℕ) (x : Entry) → length es ≡ length hs → 1 ≤ h → h ≤ length es
-    → x ≡ get_or es (h - 1) no_saved → entry_at (stack_of es hs) h ≡ entry_with x (get_or hs (h - 1) [])
+    → x ≡ get_or es (h - 1) no_stack_entry → entry_at (stack_of es hs) h ≡ entry_with x (get_or hs (h - 1) [])
 stack-entry es hs h x e a b q = stack-at (h - 1) es hs e (omega (arith, a, b)) ∙ ap (λ y. entry_with y (get_or hs (h - 1) [])) (sym q)
 
 kind-there : (es : List Entry) (hs : List (List PlainFrame)) (b : ℕ) (x : Entry) → length es ≡ length hs → b < length es → x ≡ get_or es b x
@@ -119,11 +119,11 @@ set-last xs x l =
 
 -- a Forall stays as a Done
 pub pops-forall : (es es' : List Entry) (hs : List (List PlainFrame)) → length es ≡ length hs → 1 ≤ length es
-    → (get_or es (length es - 1) no_saved).kind ≡ Forall →
-    es' ≡ set es (length es - 1) (record (get_or es (length es - 1) no_saved) { kind = Done })
+    → (get_or es (length es - 1) no_stack_entry).kind ≡ Forall →
+    es' ≡ set es (length es - 1) (record (get_or es (length es - 1) no_stack_entry) { kind = Done })
     → stack_of es' hs ≡ stack_after_pop (stack_of es hs)
 pops-forall es es' hs e l k p =
-    let last : Entry = get_or es (length es - 1) no_saved in
+    let last : Entry = get_or es (length es - 1) no_stack_entry in
     let done : Entry = record last { kind = Done } in
     let held : List PlainEntry = stack_of es hs in
     let wide : length held ≡ length es = stack-length es hs e in
@@ -148,12 +148,12 @@ none-left Done x n = refl
 
 -- any other entry goes
 pub pops-other : (es : List Entry) (hs : List (List PlainFrame)) (after : List PlainEntry) (top : ℕ) → length es ≡ length hs → 1 ≤ length es
-    → ((get_or es (length es - 1) no_saved).kind ≡ Forall → ⊥) →
+    → ((get_or es (length es - 1) no_stack_entry).kind ≡ Forall → ⊥) →
     top ≡ length es - 1 → after ≡ take top (stack_of es hs) → after ≡ stack_after_pop (stack_of es hs)
 pops-other es hs after top e l n t p =
     let held : List PlainEntry = stack_of es hs in
     let wide : length held ≡ length es = stack-length es hs e in
-    let is : top_of held ≡ entry_with (get_or es (length es - 1) no_saved) (top_copy hs) = stack-top es hs e l in
+    let is : top_of held ≡ entry_with (get_or es (length es - 1) no_stack_entry) (top_copy hs) = stack-top es hs e l in
     let left : entry_after_pop (top_of held) ≡ [] =
     none-left (top_of held).kind (top_of held) (λ q. n (sym (ap (λ (x : PlainEntry). x.kind) is) ∙ q)) in
     p ∙ (ap (λ k. take k held) (t ∙ ap (λ k. k - 1) (sym wide))

@@ -36,6 +36,7 @@ pub trait MachineMemory: Drop {
     fn kind_at(&self, height: usize) -> Option<ChoiceKind>
         ensures { result ≡ kind_at (picture self.now).held height };
 
+    /// What a slot of a live frame holds. Frame 0 is that of the module body.
     fn read(&self, frame: u32, slot: u32) -> Cell
         requires live { frame < length (picture self.now).now }
         requires slot_of { slot
@@ -52,6 +53,7 @@ pub trait MachineMemory: Drop {
         requires { slot < length (last_frame (picture self.now).now).kinds }
         ensures { slice_get (last_frame (picture self.now).now).kinds slot ≡ Some result };
 
+    /// Writes into a slot of a live frame.
     fn write(&mut self, frame: u32, slot: u32, cell: Cell) -> Result<(), NoMemory>
         requires live { frame < length (picture self.old).now }
         requires slot_of { slot

@@ -3,7 +3,7 @@ ghost use Rattle.std.specs.Prelude.{◌≡◌, ◌≢◌, true, false, ◌+◌, 
 ghost use Rattle.alma_code.specs.Picture.{stack_after_pop, top_of};
 ghost use Rattle.alma_code.specs.Carries.{frames_with_change, frames_with_carry, held_after_keep};
 ghost use Rattle.alma_memory_store.specs.Carries.{IsRising, carry_of_entries, change_of};
-ghost use Rattle.alma_memory.specs.Inner.Gain.{no_saved, entry_with_changes};
+ghost use Rattle.alma_memory.specs.Inner.Gain.{no_stack_entry, entry_with_changes};
 ghost use Rattle.alma_memory.specs.Inner.Stack.{stack_of};
 
 use crate::late_carry::LateCarry;
@@ -74,11 +74,12 @@ pub fn cut_to(entries: &mut Vec<Entry>, store: &mut Store, height: usize)
 // The kind of the top entry.
 fn top_kind(entries: &[Entry]) -> ChoiceKind
     requires { 1 ≤ length entries.now }
-    ensures { result ≡ (slice_index_or entries.now (length entries.now - 1) no_saved).kind }
+    ensures { result ≡ (slice_index_or entries.now (length entries.now - 1) no_stack_entry).kind }
 {
     entries[entries.len() - 1].kind
 }
 
+// Whether a kind is that of a Forall.
 fn is_forall(kind: ChoiceKind) -> bool
     ensures yes { result ≡ true → kind ≡ ChoiceKind.Forall }
     ensures not { result ≡ false → kind ≢ ChoiceKind.Forall }
@@ -90,7 +91,7 @@ fn is_forall(kind: ChoiceKind) -> bool
 fn finish_top(entries: &mut Vec<Entry>)
     requires { 1 ≤ length entries.old.items }
     ensures items { entries.new.items ≡ set entries.old.items (length entries.old.items - 1)
-        (record (slice_index_or entries.old.items (length entries.old.items - 1) no_saved) {
+        (record (slice_index_or entries.old.items (length entries.old.items - 1) no_stack_entry) {
           kind = ChoiceKind.Done;
         }) }
     ensures capacity { vec_capacity entries.new ≡ vec_capacity entries.old }
@@ -199,10 +200,11 @@ fn gain(
 ) -> Result<(), NoMemory>
     requires { at < length entries.old.items }
     ensures items { entries.new.items ≡ (if is_ok result then set entries.old.items at
-        (entry_with_changes (slice_index_or entries.old.items at no_saved)
+        (entry_with_changes (slice_index_or entries.old.items at no_stack_entry)
         (carry_of_entries changes.now))
         else entries.old.items) }
-    ensures rising { OnOk result (IsRising (slice_index_or entries.old.items at no_saved).carry) }
+    ensures rising { OnOk result
+        (IsRising (slice_index_or entries.old.items at no_stack_entry).carry) }
     ensures len { vec_len entries.new ≡ vec_len entries.old }
     ensures capacity { vec_capacity entries.new ≡ vec_capacity entries.old }
 {

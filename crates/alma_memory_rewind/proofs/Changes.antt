@@ -544,7 +544,7 @@ cuts h ms all trail after xs stamps counter p a s =
       sound = settled.sound;
     }
 
--- ---- compaction: a note whose place an earlier note of the same part holds may be dropped
+-- ---- the sweep: a note whose place an earlier note of the same part holds may be dropped
 pub note-dropped : {T : Type 0} (ms ns : List (Note T)) (n : Note T) (xs : List T) (i : ℕ) → i < length ms → at_of ms i ≡ n.at
     → before (ms ++ n ∷ ns) xs ≡ before (ms ++ ns) xs
 note-dropped ms ns n xs i l e =

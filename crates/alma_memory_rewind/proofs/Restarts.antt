@@ -6,7 +6,7 @@ use Rattle.alma_memory_rewind.specs.declared.rewind.Note.{Note}
 use Rattle.alma_memory_rewind.specs.declared.rewind.Mark.{Mark}
 use Rattle.alma_memory_rewind.specs.Trail.{before, copy_of, held_of, at_of, stamp_of, no_mark}
 use Rattle.alma_memory_rewind.specs.Sound.{Rises, IsSound, IsStamp}
-use Rattle.alma_memory_rewind.specs.Restart.{with_serials, cleared, Anew, Renews}
+use Rattle.alma_memory_rewind.specs.Restart.{with_serials, with_zero_stamps, Anew, Renews}
 use Rattle.alma_memory_rewind.proofs.Stamps.{no-stamp, zeros}
 
 -- ---- the marks
@@ -52,14 +52,14 @@ module _ {T : Type 0} where
 
   -- ---- the notes
 
-  pub length-cleared : (count : ℕ) (ns : List (Note T)) → length (cleared count ns) ≡ length ns
+  pub length-cleared : (count : ℕ) (ns : List (Note T)) → length (with_zero_stamps count ns) ≡ length ns
   length-cleared zero ns = refl
   length-cleared (suc count) [] = refl
   length-cleared (suc count) (n ∷ ns) = ap suc (length-cleared count ns)
 
   -- one more is cleared
-  pub clear-more : (at : ℕ) (ns : List (Note T)) (n x : Note T) → at < length ns → n ≡ get_or (cleared at ns) at n
-      → x ≡ record { at = n.at; stamp = 0; old = n.old } → set (cleared at ns) at x ≡ cleared (at + 1) ns
+  pub clear-more : (at : ℕ) (ns : List (Note T)) (n x : Note T) → at < length ns → n ≡ get_or (with_zero_stamps at ns) at n
+      → x ≡ record { at = n.at; stamp = 0; old = n.old } → set (with_zero_stamps at ns) at x ≡ with_zero_stamps (at + 1) ns
   clear-more at [] n x l e p = absurd (omega (arith, l))
   clear-more zero (n' ∷ ns) n x l e p =
       ap (λ y. y ∷ ns) (p ∙ ap (λ (y : Note T). record { at = y.at; stamp = 0; old = y.old }) e)
@@ -67,26 +67,26 @@ module _ {T : Type 0} where
       let up : suc at + 1 ≡ suc (at + 1) = omega arith in
       rw up (ap (λ ys. (record { at = n'.at; stamp = 0; old = n'.old }) ∷ ys) (clear-more at ns n x (omega (arith, l)) e p))
 
-  before-cleared : (count : ℕ) (ns : List (Note T)) (xs : List T) → before (cleared count ns) xs ≡ before ns xs
+  before-cleared : (count : ℕ) (ns : List (Note T)) (xs : List T) → before (with_zero_stamps count ns) xs ≡ before ns xs
   before-cleared zero ns xs = refl
   before-cleared (suc count) [] xs = refl
   before-cleared (suc count) (n ∷ ns) xs = ap (λ v. set v n.at n.old) (before-cleared count ns xs)
 
-  before-later : (count m : ℕ) (ns : List (Note T)) (xs : List T) → before (drop m (cleared count ns)) xs ≡ before (drop m ns) xs
+  before-later : (count m : ℕ) (ns : List (Note T)) (xs : List T) → before (drop m (with_zero_stamps count ns)) xs ≡ before (drop m ns) xs
   before-later count zero ns xs = before-cleared count ns xs
   before-later zero (suc m) ns xs = refl
   before-later (suc count) (suc m) [] xs = refl
   before-later (suc count) (suc m) (n ∷ ns) xs = before-later count m ns xs
 
   held-cleared : (count : ℕ) (ms : List Mark) (trail : List (Note T)) (xs : List T)
-      → held_of (cleared count trail) xs ms ≡ held_of trail xs ms
+      → held_of (with_zero_stamps count trail) xs ms ≡ held_of trail xs ms
   held-cleared count [] trail xs = refl
   held-cleared count (m ∷ ms) trail xs =
-      let one : copy_of (cleared count trail) xs m ≡ copy_of trail xs m = ap (take m.top) (before-later count m.mark trail xs) in
-      let rest : held_of (cleared count trail) xs ms ≡ held_of trail xs ms = held-cleared count ms trail xs in
+      let one : copy_of (with_zero_stamps count trail) xs m ≡ copy_of trail xs m = ap (take m.top) (before-later count m.mark trail xs) in
+      let rest : held_of (with_zero_stamps count trail) xs ms ≡ held_of trail xs ms = held-cleared count ms trail xs in
       cc
 
-  stamp-cleared : (ns : List (Note T)) (p : ℕ) → stamp_of (cleared (length ns) ns) p ≡ 0
+  stamp-cleared : (ns : List (Note T)) (p : ℕ) → stamp_of (with_zero_stamps (length ns) ns) p ≡ 0
   stamp-cleared [] zero = refl
   stamp-cleared [] (suc p) = refl
   stamp-cleared (n ∷ ns) zero = refl
@@ -95,14 +95,14 @@ module _ {T : Type 0} where
   -- ---- both
 
   pub anew : (ms ms' : List Mark) (trail trail' : List (Note T)) (xs : List T) (stamps stamps' : List ℕ) (counter counter' : ℕ)
-      → ms' ≡ with_serials (length ms) 1 ms → trail' ≡ cleared (length trail) trail → stamps' ≡ replicate (length stamps) 0
+      → ms' ≡ with_serials (length ms) 1 ms → trail' ≡ with_zero_stamps (length trail) trail → stamps' ≡ replicate (length stamps) 0
       → counter' ≡ length ms → IsSound ms trail xs stamps counter → Anew ms ms' trail trail' xs stamps' counter'
   anew ms ms' trail trail' xs stamps stamps' counter counter' p q z c s = rw (p, q, z, c) (record {
-    held = held-numbered (length ms) 1 ms (cleared (length trail) trail) xs ∙ held-cleared (length trail) ms trail xs;
+    held = held-numbered (length ms) 1 ms (with_zero_stamps (length trail) trail) xs ∙ held-cleared (length trail) ms trail xs;
     sound = record {
       wide = rw (length-replicate {A = ℕ} (length stamps) 0) s.wide;
       stamped = record {
-        now = λ k. rw (zeros 0 (length stamps) k) (right (length (cleared (length trail) trail)) k);
+        now = λ k. rw (zeros 0 (length stamps) k) (right (length (with_zero_stamps (length trail) trail)) k);
         older =
             λ k l. older k;
       };
@@ -123,16 +123,17 @@ module _ {T : Type 0} where
           let w : i < length ms = rw (length-numbered (length ms) 1 ms) at l in
           (serial-of (length ms) 1 ms i w w, w)
 
-      right : (n at : ℕ) → IsStamp (with_serials (length ms) 1 ms) (cleared (length trail) trail) n at 0
-      right n at = no-stamp (with_serials (length ms) 1 ms) (cleared (length trail) trail) n at
+      right : (n at : ℕ) → IsStamp (with_serials (length ms) 1 ms) (with_zero_stamps (length trail) trail) n at 0
+      right n at = no-stamp (with_serials (length ms) 1 ms) (with_zero_stamps (length trail) trail) n at
           (λ i l. (let e = serial i l in omega (arith, e.0)))
 
-      older : (p : ℕ) → IsStamp (with_serials (length ms) 1 ms) (cleared (length trail) trail) p (at_of (cleared (length trail) trail) p)
-          (stamp_of (cleared (length trail) trail) p)
-      older p = rw (stamp-cleared trail p) (right p (at_of (cleared (length trail) trail) p))
+      older : (p : ℕ) → IsStamp (with_serials (length ms) 1 ms) (with_zero_stamps (length trail) trail) p
+          (at_of (with_zero_stamps (length trail) trail) p)
+          (stamp_of (with_zero_stamps (length trail) trail) p)
+      older p = rw (stamp-cleared trail p) (right p (at_of (with_zero_stamps (length trail) trail) p))
 
   pub renews : (ms ms' : List Mark) (trail trail' : List (Note T)) (stamps stamps' : List ℕ) (counter counter' : ℕ)
-      → ms' ≡ with_serials (length ms) 1 ms → trail' ≡ cleared (length trail) trail → stamps' ≡ replicate (length stamps) 0
+      → ms' ≡ with_serials (length ms) 1 ms → trail' ≡ with_zero_stamps (length trail) trail → stamps' ≡ replicate (length stamps) 0
       → counter' ≡ length ms → Renews ms ms' trail trail' stamps stamps' counter counter'
   renews ms ms' trail trail' stamps stamps' counter counter' p q z c =
       record { keeps = λ xs s. anew ms ms' trail trail' xs stamps stamps' counter counter' p q z c s }

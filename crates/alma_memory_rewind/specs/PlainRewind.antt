@@ -11,8 +11,9 @@ pub record PlainRewind (T : Type 0) : Type 0 where
   pub choice_room : ℕ
   pub trail_room : ℕ
 
-abbrev pub rewound_code : {T : Type 0} → Coded T → Coded (PlainRewind T)
-rewound_code {T} code =
+-- how a PlainRewind is coded, by the code of its items
+abbrev pub rewind_code : {T : Type 0} → Coded T → Coded (PlainRewind T)
+rewind_code {T} code =
     code_by
     (List T × (List (List T) × (List Bool × (ℕ × ℕ))))
     (coded× (coded_list code) (coded× (coded_list (coded_list code)) (coded× (coded_list coded_bool) (coded× coded_ℕ coded_ℕ))))

@@ -13,10 +13,10 @@ with_serials (suc count) n (m ∷ ms) = (record { mark = m.mark; top = m.top; se
 
 module _ {T : Type 0} where
   -- the first so many notes hold the stamp 0
-  abbrev pub cleared : (count : ℕ) → List (Note T) → List (Note T)
-  cleared zero ns = ns
-  cleared (suc count) [] = []
-  cleared (suc count) (n ∷ ns) = (record { at = n.at; stamp = 0; old = n.old }) ∷ cleared count ns
+  abbrev pub with_zero_stamps : (count : ℕ) → List (Note T) → List (Note T)
+  with_zero_stamps zero ns = ns
+  with_zero_stamps (suc count) [] = []
+  with_zero_stamps (suc count) (n ∷ ns) = (record { at = n.at; stamp = 0; old = n.old }) ∷ with_zero_stamps count ns
 
   -- new serials: the copies are as they were, and the fields sound
   pub record Anew (marks marks' : List Mark) (trail trail' : List (Note T)) (items : List T) (stamps' : List ℕ) (counter' : ℕ) : Type 0
@@ -24,7 +24,7 @@ module _ {T : Type 0} where
       pub held : held_of trail' items marks' ≡ held_of trail items marks
       pub sound : IsSound marks' trail' items stamps' counter'
 
-  -- over any items
+  -- the same over any items for which the fields were sound
   pub record Renews (marks marks' : List Mark) (trail trail' : List (Note T)) (stamps stamps' : List ℕ) (counter counter' : ℕ) : Type 0
     where
       pub keeps : (items : List T) → IsSound marks trail items stamps counter

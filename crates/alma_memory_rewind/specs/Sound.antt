@@ -10,7 +10,7 @@ Rises mark top [] notes items = (mark ≤ notes) × (top ≤ items)
 Rises mark top (m ∷ ms) notes items = (mark ≤ m.mark) × (top ≤ m.top) × Rises m.mark m.top ms notes items
 
 module _ {T : Type 0} where
-  -- a note of the place at stands from low on, below high
+  -- a note of the place `at` stands in the trail from low on, below high
   pub record HasNote (trail : List (Note T)) (low high at : ℕ) : Type 0 where
     pub place : ℕ
     pub above : low ≤ place
@@ -37,6 +37,7 @@ module _ {T : Type 0} where
     pub serials : (i : ℕ) → i < length marks → (get_or marks i no_mark).serial ≤ counter
     pub some : (i : ℕ) → i < length marks → 1 ≤ (get_or marks i no_mark).serial
 
+  -- each item has a stamp, stamps and serials are right, marks rise, and no note is kept where no copy is
   pub record IsSound (marks : List Mark) (trail : List (Note T)) (items : List T) (stamps : List ℕ) (counter : ℕ) : Type 0 where
     pub wide : length items ≤ length stamps
     pub stamped : AreStamps marks trail stamps

@@ -14,6 +14,7 @@ module _ {T : Type 0} where
   abbrev pub copy_of : List (Note T) → List T → Mark → List T
   copy_of trail items m = take m.top (before (drop m.mark trail) items)
 
+  -- the copies of all marks, from the bottom
   abbrev pub held_of : List (Note T) → List T → List Mark → List (List T)
   held_of trail items marks = map (copy_of trail items) marks
 
@@ -22,17 +23,19 @@ module _ {T : Type 0} where
   first_of [] at = None
   first_of (note ∷ notes) at = if nat_eq note.at at then Some note.old else first_of notes at
 
-  -- where a note was made
+  -- the place of the note that stands at p in the trail, or 0
   abbrev pub at_of : List (Note T) → (p : ℕ) → ℕ
   at_of trail p = get_or (map (λ (n : Note T). n.at) trail) p 0
 
-  -- what the stamp was there before
+  -- the stamp that the note at p holds, or 0
   abbrev pub stamp_of : List (Note T) → (p : ℕ) → ℕ
   stamp_of trail p = get_or (map (λ (n : Note T). n.stamp) trail) p 0
 
+-- what stands for a mark that is not there
 abbrev pub no_mark : Mark
 no_mark = record { mark = 0; top = 0; serial = 0 }
 
+-- the mark of the top copy
 abbrev pub last_mark : List Mark → Mark
 last_mark marks = get_or marks (length marks - 1) no_mark
 
@@ -42,12 +45,12 @@ abbrev pub is_free : List Mark → (at stamp : ℕ) → Bool
 is_free [] at stamp = true
 is_free (m ∷ ms) at stamp = nat_le (last_mark (m ∷ ms)).top at || nat_le (last_mark (m ∷ ms)).serial stamp
 
--- for the places from `at` on, with these stamps
+-- for each place from `at` on, with these stamps: whether a write there needs no note
 abbrev pub free_from : List Mark → (at : ℕ) → List ℕ → List Bool
 free_from marks at [] = []
 free_from marks at (stamp ∷ stamps) = is_free marks at stamp ∷ free_from marks (suc at) stamps
 
--- for so many items from the bottom: stamps may stand above the items
+-- the same for the first n places: stamps may stand above the items
 abbrev pub noted_to : List Mark → (n : ℕ) → List ℕ → List Bool
 noted_to marks n stamps = take n (free_from marks 0 stamps)
 

@@ -7,11 +7,11 @@ ghost use Rattle.std.specs.BTreeMap.{get};
 ghost use Rattle.std.specs.Ordering.{nat_cmp};
 ghost use Rattle.alma_memory_rewind.specs.Limits.{item_limit, serial_limit};
 ghost use Rattle.alma_memory_rewind.specs.PlainRewind.{IsOlds, needed, top_copy};
-ghost use Rattle.alma_memory_rewind.specs.Trail.{before, first_of, held_of, is_free, last_mark};
+ghost use Rattle.alma_memory_rewind.specs.Trail.{before, first_of, is_free, last_mark};
 ghost use Rattle.alma_memory_rewind.specs.Trail.{trail_for};
 ghost use Rattle.alma_memory_rewind.specs.Sound.{AddsNoted, AreOld, AreStamps, IsSound, Keeps};
 ghost use Rattle.alma_memory_rewind.specs.Sound.{Sweeps, SweepsOn};
-ghost use Rattle.alma_memory_rewind.specs.Restart.{cleared, with_serials, Renews};
+ghost use Rattle.alma_memory_rewind.specs.Restart.{with_zero_stamps, with_serials, Renews};
 
 use alma_base::NoMemory;
 use std::alloc::Global;
@@ -70,11 +70,11 @@ impl<T> Model for Rewind<T> {
     ghost use Rattle.std.specs.Prelude.{◌-◌, ◌≤◌, length, min};
     ghost use Rattle.std.specs.Vec.{vec_len, vec_capacity};
     ghost use Rattle.alma_memory_rewind.specs.Limits.{item_limit, serial_limit};
-    ghost use Rattle.alma_memory_rewind.specs.PlainRewind.{PlainRewind, rewound_code};
+    ghost use Rattle.alma_memory_rewind.specs.PlainRewind.{PlainRewind, rewind_code};
 
     ghost Value = { PlainRewind T };
 
-    ghost coded = { rewound_code T.code };
+    ghost coded = { rewind_code T.code };
 
     ghost use Rattle.alma_memory_rewind.specs.Trail.{held_of, noted_to};
     ghost use Rattle.alma_memory_rewind.specs.Sound.{IsSound};
@@ -420,7 +420,7 @@ fn number(marks: &mut Vec<Mark>)
 
 // Sets the stamp of each note to 0.
 fn clear_notes<T: Copy>(trail: &mut Vec<Note<T>>)
-    ensures trail { trail.new.items ≡ cleared (length trail.old.items) trail.old.items }
+    ensures trail { trail.new.items ≡ with_zero_stamps (length trail.old.items) trail.old.items }
     ensures len { vec_len trail.new ≡ vec_len trail.old }
     ensures capacity { vec_capacity trail.new ≡ vec_capacity trail.old }
 {

@@ -23,7 +23,7 @@ abbrev pub IsRising : Carry Cell → Type 0
 IsRising [] = Unit {0}
 IsRising (x ∷ rest) = IsAbove x.frame x.slot rest × IsRising rest
 
--- the carry without a place
+-- the carry without the cell that it has for a place
 abbrev pub without_place : (frame slot : ℕ) → Carry Cell → Carry Cell
 without_place frame slot [] = []
 without_place frame slot (x ∷ rest) =

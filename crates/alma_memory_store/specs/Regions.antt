@@ -44,6 +44,7 @@ frame_with_slots r slots = record {
 abbrev pub frame_of : List Slot → Region → PlainFrame
 frame_of slots r = frame_with_slots r (part_of slots r)
 
+-- the frames of regions
 abbrev pub frames_of : List Slot → List Region → List PlainFrame
 frames_of slots regions = map (frame_of slots) regions
 

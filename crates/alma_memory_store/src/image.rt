@@ -47,6 +47,7 @@ impl Model for Image {
     ghost invariant = { λ i. IsImage i.runs.items i.slots.items i.written };
 }
 
+// Whether two runs are equal.
 #[inline(always)]
 fn is_same_run(a: Run, b: Run) -> bool
     ensures { result ≡ true → a ≡ b }

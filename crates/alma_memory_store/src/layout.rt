@@ -69,6 +69,7 @@ pub fn put_cells(slots: &mut Vec<Slot>, cells: &[Cell])
     }
 }
 
+// Adds what an argument puts into the slots of its parameter.
 fn push_arg<F: LiveFrames>(
     cells: &mut Vec<Cell>,
     frames: &F,
@@ -137,6 +138,7 @@ fn push_place<F: LiveFrames>(
     Ok(())
 }
 
+// Adds copies of the cells at the place that an argument is.
 fn push_copies<F: LiveFrames>(
     cells: &mut Vec<Cell>,
     frames: &F,

@@ -121,7 +121,7 @@ impl<'a> Past<'a> {
         live_number(self.slots, self.regions, self.live, place)
     }
 
-    // The cell of a place that was one.
+    // The cell of a place that was a live number slot in the top copy.
     fn old_number(&self, place: SlotPlace) -> Option<Cell>
         ensures { result ≡ number_of self.now.before place.frame place.slot }
     {

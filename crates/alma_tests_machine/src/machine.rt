@@ -77,13 +77,14 @@ const PARTS: [Instr; 21] = [
     Instr::Fault { number: 5 },
 ];
 
-/// A code, how its run ends, and in how many steps.
+// A code, how its run ends, and in how many steps.
 struct Row {
     instrs: &'static [Instr],
     end: RunEnd,
     steps: u64,
 }
 
+// Codes that end in faults, in a failure, and well.
 const ROWS: [Row; 8] = [
     Row {
         instrs: &[
@@ -191,7 +192,8 @@ const ROWS: [Row; 8] = [
     },
 ];
 
-const KINDS: [Run; 5] = [
+// The runs of the slots of the module body.
+const RUNS: [Run; 5] = [
     Run {
         kind: SlotKind::Number,
         end: 5,
@@ -219,7 +221,7 @@ fn small_routines(alloc: Global, code_end: u32) -> Result<Vec<RoutineHead>, NoMe
     ensures { IfOk result
         (λ routines. map routine_of routines.items ≡ small_routine code_end ∷ []) }
 {
-    let kinds = Vec::from_slice(alloc, &KINDS)?;
+    let kinds = Vec::from_slice(alloc, &RUNS)?;
     let name = Vec::from_slice(alloc, b"A")?;
     let mut routines = Vec::new(alloc);
     routines.push(RoutineHead {
@@ -262,8 +264,8 @@ fn small(alloc: Global, instrs: &[Instr]) -> Result<Code, NoMemory>
     })
 }
 
-/// The bytes of an object with one routine, a module body of these instructions with 13 slots of
-/// the kinds `KINDS`; with the range from 1 to 2 and the text `ok`, without globals and lines.
+/// The bytes of an object with one routine, a module body of these instructions with 13 slots in
+/// the runs `RUNS`; with the range from 1 to 2 and the text `ok`, without globals and lines.
 pub fn object(alloc: Global, instrs: &[Instr]) -> Result<Vec<u8>, NoMemory>
     requires { length instrs.now ≤ 99 }
 {

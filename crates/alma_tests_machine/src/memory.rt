@@ -1,5 +1,6 @@
 // Rows on calls alone.
 ghost use Rattle.std.specs.Prelude.{ℕ, ◌≡◌, ◌≢◌, ◌<◌, ◌≤◌, ◌∷◌, ◌++◌, [], length, slice_index_or, IfOk, OnOk};
+ghost use Rattle.alma_base.specs.Limits.{cell_limit};
 ghost use Rattle.alma_code.specs.Layout.{start_frame};
 ghost use Rattle.alma_code.specs.Picture.{no_frame, frames_with_cell, last_frame, top_of};
 ghost use Rattle.alma_code.specs.Picture.{stack_after_pop};
@@ -77,6 +78,7 @@ impl Head for Sketch {
     }
 }
 
+// The head of one parameter, the place of a number.
 const ONE_PLACE: Sketch = Sketch {
     has_place: true,
     numbers: 0,
@@ -85,7 +87,7 @@ const ONE_PLACE: Sketch = Sketch {
 // A memory of so many number slots.
 fn start(alloc: Global, slots: u32) -> Result<Memory, NoMemory>
     requires some { 1 ≤ slots }
-    requires few { slots ≤ 1048576 }
+    requires few { slots ≤ cell_limit }
     ensures slots { IfOk result (λ memory. KeepsSlots slots memory) }
     ensures now { IfOk result (λ memory. memory.now ≡ start_frame (numbers slots) ∷ []) }
     ensures held { IfOk result (λ memory. memory.held ≡ []) }
@@ -124,6 +126,7 @@ fn go_back(memory: &mut Memory) -> Option<Resumed>
     memory.fail()
 }
 
+// What a pop of the branch of a row gives.
 const BRANCH: Resumed = Resumed {
     kind: ChoiceKind::Branch,
     resume: 7,
@@ -347,6 +350,7 @@ fn forall_of_nine(alloc: Global) -> Result<Carried, NoMemory> {
     carry_nine(&mut memory)
 }
 
+// What a pop of the forall of a row gives.
 const FORALL: Resumed = Resumed {
     kind: ChoiceKind::Forall,
     resume: 3,
@@ -538,6 +542,7 @@ fn stripes_with(first: Cell) -> [Cell; 8] {
     ]
 }
 
+// The kinds of four of these slots: the first, fourth, sixth and eighth.
 const KINDS: [SlotKind; 4] = [
     SlotKind::Number,
     SlotKind::Mark,
@@ -607,8 +612,10 @@ fn a_routine_that_is_called_again_finds_its_slots_blank(rt: HostRuntime) -> Resu
     Ok(())
 }
 
+// So many slots has the memory in which many choices are made.
 const SLOTS: u32 = 100_000;
 
+// So many choices are made in it.
 const CHOICES: u32 = 200_000;
 
 // Makes room for so many entries and pushes them, and after each writes one of the slots from 1 on,

@@ -11,7 +11,7 @@ abbrev pub value_at : List PlainFrame → Option (ℕ × ℕ) → List ℕ
 value_at frames None = codes "-"
 value_at frames (Some place) = cells_text frames place.0 place.1
 
--- a watched name with its value
+-- a watched name, an equals sign (61) and its value
 abbrev pub watch_word : List PlainFrame → Watch → List ℕ
 watch_word frames watch = watch.name.now ++ 61 ∷ value_at frames watch.at
 
@@ -31,7 +31,7 @@ AreOfModule code watches = All (IsWithin (length (kinds_at code 0))) watches
 abbrev pub main_slots : List PlainFrame → ℕ
 main_slots frames = length (get_or frames 0 no_frame).cells
 
--- the comma before a cell that is not the first
+-- the comma (44) before a cell that is not the first
 abbrev pub comma : (index : ℕ) → List ℕ
 comma zero = []
 comma (suc before) = 44 ∷ []

@@ -26,7 +26,7 @@ abbrev pub traced_words : PlainCode → List Watch → Step → (printed : List 
 traced_words code watches answer bytes s =
     map (λ words. words ++ shown_words answer watches s) (step_words code [] answer bytes s)
 
--- the text of a step
+-- the text of a step: its line, or nothing where it has none
 abbrev pub step_text : PlainCode → List Watch → Step → (printed : List ℕ) → State → List ℕ
 step_text code watches answer bytes s = flat_map text_line (traced_words code watches answer bytes s)
 

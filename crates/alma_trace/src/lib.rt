@@ -1,4 +1,4 @@
-//! The tracer: a line for each choice, failure, cut, call, return and print.
+//! The tracer: a line for each choice, failure, cut, call, return and print, and for the end.
 #![tactic(auto)]
 
 pub mod laws;

@@ -62,6 +62,7 @@ finishes Forall = 1
 finishes Body = 0
 finishes Done = 0
 
+-- how often entries can be finished, all together
 abbrev pub all_finishes : List Entry → ℕ
 all_finishes [] = 0
 all_finishes (entry ∷ entries) = finishes entry.kind + all_finishes entries
@@ -82,6 +83,7 @@ pub record HasRooms (more : ℕ) (j : Journal) : Type 0 where
 
 -- ---- a journal
 
+-- what its lists hold
 abbrev pub reel_of : Journal → Reel
 reel_of j = record {
   frames = j.frames;
@@ -116,6 +118,7 @@ pub record IsOpen (change : Change) (j : Journal) : Type 0 where
   pub good : IsGood (change ∷ reverse j.changes.items) (reel_of j)
   pub rooms : HasRooms 1 j
 
+-- the scenes at which its steps began, where the last change is taken from the list, and still to be taken back
 abbrev pub scenes_open : Change → Journal → List Scene
 scenes_open change j = past (change ∷ reverse j.changes.items) (reel_of j)
 

@@ -77,13 +77,15 @@ front xs = take (length xs - 1) xs
 abbrev pub last_or : {A : Type 0} → List A → A → A
 last_or xs d = get_or xs (length xs - 1) d
 
--- what stands for a note, an entry and a gain that are not there
+-- what stands for a note that is not there
 abbrev pub no_note : Note
 no_note = Entered
 
+-- what stands for an entry that is not there
 abbrev pub no_entry : Entry
 no_entry = record { kind = Branch; resume = 0; mark = 0; carry = [] }
 
+-- what stands for a gain that is not there
 abbrev pub no_gain : PlainGain
 no_gain = record { at = 0; places = []; had = [] }
 

@@ -3,7 +3,7 @@ use Rattle.alma_code.specs.Carries.{diffs}
 use Rattle.alma_memory_rewind.specs.PlainRewind.{top_copy}
 use Rattle.alma_memory_store.specs.Carries.{carry_of_entries}
 use Rattle.alma_memory_store.specs.Past.{SameGain}
-use Rattle.alma_memory.specs.Inner.Gain.{no_saved, entry_with_changes}
+use Rattle.alma_memory.specs.Inner.Gain.{no_stack_entry, entry_with_changes}
 use Rattle.alma_memory.proofs.Keeping.{kept-held}
 use Rattle.alma_memory.proofs.stack.keep_top.Goals as goal
 
@@ -13,7 +13,7 @@ returns-clause-held c =
     let hs = c.args.store.now.held in
     let h = c.args.height in
     let found = carry_of_entries c.as_slice.result.now in
-    let items : c.gain.new.entries.items ≡ set es (h - 1) (entry_with_changes (get_or es (h - 1) no_saved) found) =
+    let items : c.gain.new.entries.items ≡ set es (h - 1) (entry_with_changes (get_or es (h - 1) no_stack_entry) found) =
     c.in_ok-gain.ensures.items in
     let top : c.len-top.result - 1 ≡ length es - 1 =
     ap (λ k. k - 1) (c.len-top.ensures ∙ (c.in_ok-gain.ensures.len ∙ c.args.entries.now.ok.0)) in

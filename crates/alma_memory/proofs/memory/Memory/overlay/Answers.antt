@@ -4,7 +4,7 @@ use Rattle.std.proofs.lemmas.Bool.{false≢true}
 use Rattle.alma_code.specs.Picture.{PlainEntry, entry_at}
 use Rattle.alma_code.specs.Carries.{frames_with_carry}
 use Rattle.alma_memory.specs.Picture.{Picture}
-use Rattle.alma_memory.specs.Inner.Gain.{no_saved}
+use Rattle.alma_memory.specs.Inner.Gain.{no_stack_entry}
 use Rattle.alma_memory.specs.Inner.Stack.{stack_of}
 use Rattle.alma_memory.proofs.Stacks.{stack-length, stack-entry}
 use Rattle.alma_memory.proofs.memory.Memory.overlay.Goals as goal
@@ -27,7 +27,7 @@ returns-in_err-reserve-clause-succeeds c = λ l.
     ∙ stack-length es hs c.self.invariant in
     let x = c.index.result.now in
     let lt : h - 1 < length es = omega (arith, wide, c.requires.some, c.requires.below) in
-    let is : x ≡ get_or es (h - 1) no_saved = get_or_read es (h - 1) x lt c.index.ensures no_saved in
+    let is : x ≡ get_or es (h - 1) no_stack_entry = get_or_read es (h - 1) x lt c.index.ensures no_stack_entry in
     let carry : (entry_at c.args.self.now.held h).carry ≡ x.carry =
     sym (ap (λ (p : Picture). (entry_at p.held h).carry) c.self.view_is)
     ∙ ap (λ (y : PlainEntry). y.carry) (stack-entry es hs h x c.self.invariant c.requires.some (omega (arith, wide, c.requires.below))
@@ -45,7 +45,7 @@ returns-clause-now c =
     ∙ stack-length es hs c.self.invariant in
     let x = c.index.result.now in
     let lt : h - 1 < length es = omega (arith, wide, c.requires.some, c.requires.below) in
-    let is : x ≡ get_or es (h - 1) no_saved = get_or_read es (h - 1) x lt c.index.ensures no_saved in
+    let is : x ≡ get_or es (h - 1) no_stack_entry = get_or_read es (h - 1) x lt c.index.ensures no_stack_entry in
     let carry : (entry_at c.args.self.now.held h).carry ≡ x.carry =
     sym (ap (λ (p : Picture). (entry_at p.held h).carry) c.self.view_is)
     ∙ ap (λ (y : PlainEntry). y.carry) (stack-entry es hs h x c.self.invariant c.requires.some (omega (arith, wide, c.requires.below))
@@ -66,7 +66,7 @@ returns-clause-trail_room c =
     ∙ stack-length es hs c.self.invariant in
     let x = c.index.result.now in
     let lt : h - 1 < length es = omega (arith, wide, c.requires.some, c.requires.below) in
-    let is : x ≡ get_or es (h - 1) no_saved = get_or_read es (h - 1) x lt c.index.ensures no_saved in
+    let is : x ≡ get_or es (h - 1) no_stack_entry = get_or_read es (h - 1) x lt c.index.ensures no_stack_entry in
     let carry : (entry_at c.args.self.now.held h).carry ≡ x.carry =
     sym (ap (λ (p : Picture). (entry_at p.held h).carry) c.self.view_is)
     ∙ ap (λ (y : PlainEntry). y.carry) (stack-entry es hs h x c.self.invariant c.requires.some (omega (arith, wide, c.requires.below))
@@ -84,7 +84,7 @@ returns-clause-call c =
     ∙ stack-length es hs c.self.invariant in
     let x = c.index.result.now in
     let lt : h - 1 < length es = omega (arith, wide, c.requires.some, c.requires.below) in
-    let is : x ≡ get_or es (h - 1) no_saved = get_or_read es (h - 1) x lt c.index.ensures no_saved in
+    let is : x ≡ get_or es (h - 1) no_stack_entry = get_or_read es (h - 1) x lt c.index.ensures no_stack_entry in
     let carry : (entry_at c.args.self.now.held h).carry ≡ x.carry =
     sym (ap (λ (p : Picture). (entry_at p.held h).carry) c.self.view_is)
     ∙ ap (λ (y : PlainEntry). y.carry) (stack-entry es hs h x c.self.invariant c.requires.some (omega (arith, wide, c.requires.below))
