@@ -129,7 +129,7 @@ pub record Allows (stats watches : ℕ) (settings : List Setting) : Type 0 where
   pub few_stats : stats_count settings ≤ stats
   pub few_watches : length (names_watched settings) ≤ watches
 
--- the number of steps that options name, where there is one
+-- the number of steps that options name, by the list of those that they name; where that is empty, the one for words that name none
 abbrev pub steps_of : (named : List ℕ) → ℕ
 steps_of [] = default_steps
 steps_of (steps ∷ more) = steps
