@@ -254,7 +254,7 @@ joined_body units = record (routine_at (first_of units) 0) {
   lines = joined_lines units;
 }
 
--- the joined program: the name of the first module, the globals of all, their bodies as one, and the procedures that stay
+-- the joined program: the first module's name, the globals of all, their bodies as one, and the procedures that stay
 abbrev pub joined_program : List Program → Program
 joined_program units = record {
   name = (first_of units).name;

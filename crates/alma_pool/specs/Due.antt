@@ -13,7 +13,7 @@ use Rattle.alma_plan.specs.Plan.{Due, Ending, Plan, Fetches, Reads, Ends, silent
 use Rattle.alma_plan.specs.Objects.{object_refusal}
 use Rattle.alma_plan.specs.Words.{bad_file}
 use Rattle.alma_driver_words.specs.Exit as exit
-use Rattle.alma_pool.specs.Pool.{Lone, lone, turns_of}
+use Rattle.alma_pool.specs.Pool.{LoneRun, lone_run, turns_of}
 
 -- the name of the program
 abbrev pub program : List ℕ
@@ -63,14 +63,14 @@ program_lines number ended output =
     ++ (ended ++ (codes " bytes " ++ (decimal (length output) ++ (codes "\n" ++ (output ++ codes "\n")))))))
 
 -- the same by what is seen of its run
-abbrev pub program_text : (number : ℕ) → Lone → List ℕ
+abbrev pub program_text : (number : ℕ) → LoneRun → List ℕ
 program_text number l = program_lines number (end_text l.end) l.output
 
 -- The lines of these programs, which stand behind so many others: each shows its run alone, for as many turns as are its own.
 abbrev pub pool_text : (before : ℕ) → List PlainCode → (input : List ℕ) → (turns : List ℕ) → List ℕ
 pool_text before [] input turns = []
 pool_text before (code ∷ more) input turns =
-    program_text (before + 1) (lone code input (turns_of before turns)) ++ pool_text (before + 1) more input turns
+    program_text (before + 1) (lone_run code input (turns_of before turns)) ++ pool_text (before + 1) more input turns
 
 -- ---- the objects
 
