@@ -53,7 +53,7 @@ pub record PoolView : Type 0 where
 abbrev pub no_code : PlainCode
 no_code = record { version = 0; globals = []; routines = []; ranges = []; texts = []; instrs = []; lines = [] }
 
--- that program
+-- what stands for a program that is not there: one of that code, on an empty input
 abbrev pub no_program : PlayerState
 no_program = player_at_start no_code []
 
