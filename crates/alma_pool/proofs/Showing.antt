@@ -93,7 +93,7 @@ shown_more ps k within =
 -- what is shown of programs that stand where each would stand alone
 shown_is : (before : ℕ) (ps : List PlayerState) (codes : List PlainCode) (input turns : List ℕ) → length ps ≡ length codes
     → ((k : ℕ) → k < length codes → seen_of (get_or ps k no_program) ≡ lone_run (get_or codes k no_code) input
-        (turns_of (before + k) turns))
+    (turns_of (before + k) turns))
     → shown_text before ps ≡ pool_text before codes input turns
 shown_is before [] [] input turns e each = refl
 shown_is before [] (code ∷ codes) input turns e each = absurd (omega (arith, e))
