@@ -21,7 +21,7 @@ use Rattle.alma_run_laws.proofs.Meant.{code_shows}
 use Rattle.alma_run_laws.proofs.VariableLemmas.{values_meant, variables_shown}
 use Rattle.alma_run_laws.specs.Variables.{variable_word}
 use Rattle.alma_verify.specs.Bytes.{object_code}
-use Rattle.alma_back.specs.Due.{fetch_plan, back_plan, verify_plan, judged_by, program, script_limit, walk_plan, walked_on}
+use Rattle.alma_back.specs.Due.{fetch_plan, back_plan, verify_plan, unless_bad_line, program, script_limit, walk_plan, walk_on_plan}
 use Rattle.alma_back.specs.Script.{Line, Forward, Backward, Value, Output, lines_in}
 use Rattle.alma_back.specs.Session.{after_line, line_text, session, lines_text}
 use Rattle.alma_back.specs.Shown.{ShowsLine, ShowsLines, none, one_more, ShowsWalk, WalksProgram}
@@ -66,7 +66,7 @@ module _ (p : Program) where
 -- ---- no file is missing
 
 module _ (told : List ℕ → Told) where
-  on_asks : (reads : Bool) (code : PlainCode) (lines : List Line) (name : List ℕ) → Asks plain told (walked_on reads code lines) name → ⊥
+  on_asks : (reads : Bool) (code : PlainCode) (lines : List Line) (name : List ℕ) → Asks plain told (walk_on_plan reads code lines) name → ⊥
   on_asks true code lines name asks = asks
   on_asks false code lines name asks = asks
 
@@ -75,7 +75,7 @@ module _ (told : List ℕ → Told) where
   walked_asks None code lines name asks = on_asks (code_reads code) code lines name asks
   walked_asks (Some end) code lines name asks = asks
 
-  judged_asks : (r : Result (List Line) ℕ) (object name : List ℕ) → Asks plain told (judged_by r object) name → ⊥
+  judged_asks : (r : Result (List Line) ℕ) (object name : List ℕ) → Asks plain told (unless_bad_line r object) name → ⊥
   judged_asks (Ok lines) object name asks = walked_asks (object_refusal program object) (object_code object) lines name asks
   judged_asks (Err line) object name asks = asks
 
@@ -97,7 +97,7 @@ module _ (told : List ℕ → Told) (left : Option (List ℕ)) (reading : Readin
 
   module _ (code : PlainCode) (lines : List Line) (input : List ℕ) (short : length input ≤ input_limit) where
     on_comes : (reads : Bool) → code_reads code ≡ reads → (code_reads code ≡ true → left ≡ Some input)
-        → ComesOf (walked_on reads code lines) → due ≡ prints (session code input lines)
+        → ComesOf (walk_on_plan reads code lines) → due ≡ prints (session code input lines)
     on_comes true is has c =
         read_comes plain program told left reading due input (λ bytes. prints (session code bytes lines)) (has is) short c
     on_comes false quiet has h = h.1 ∙ ap prints (sym (shown_alike input (standing_at_start code []) lines quiet))
@@ -105,9 +105,9 @@ module _ (told : List ℕ → Told) (left : Option (List ℕ)) (reading : Readin
     judged_comes : (bytes text : List ℕ) → lines_in text ≡ Ok lines → object_refusal program bytes ≡ None → object_code bytes ≡ code
         → (code_reads code ≡ true → left ≡ Some input) → ComesOf (verify_plan bytes text) → due ≡ prints (session code input lines)
     judged_comes bytes text good sound is has come =
-        let read = subst (λ (r : Result (List Line) ℕ). ComesOf (judged_by r bytes)) good come in
+        let read = subst (λ (r : Result (List Line) ℕ). ComesOf (unless_bad_line r bytes)) good come in
         let opened = subst (λ (refusal : Option Ending). ComesOf (walk_plan refusal (object_code bytes) lines)) sound read in
-        on_comes (code_reads code) refl has (subst (λ (c : PlainCode). ComesOf (walked_on (code_reads c) c lines)) is opened)
+        on_comes (code_reads code) refl has (subst (λ (c : PlainCode). ComesOf (walk_on_plan (code_reads c) c lines)) is opened)
 
 -- ---- the call
 

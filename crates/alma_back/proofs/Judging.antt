@@ -19,7 +19,8 @@ use Rattle.alma_plan.proofs.Courses.{course_ends, course_starved, gains_none}
 use Rattle.alma_plan.proofs.PlainEnds.{own_status, refusal_status}
 use Rattle.alma_back.specs.declared.end.BackEnd.{BackEnd}
 use Rattle.alma_back.specs.declared.end.BackEnd.TheVariants.{Walked, BadLine, Refused}
-use Rattle.alma_back.specs.Due.{program, walked_on, walk_plan, judged_by, verify_plan, fetch_plan, bad_word_plan, with_script, back_plan}
+use Rattle.alma_back.specs.Due.{program, walk_on_plan, walk_plan, unless_bad_line, verify_plan, fetch_plan, bad_word_plan, with_script}
+use Rattle.alma_back.specs.Due.{back_plan}
 use Rattle.alma_back.specs.Ends.{back_end}
 use Rattle.alma_back.specs.Inner.{IsUnread, Shows}
 use Rattle.alma_back.specs.Script.{Line, lines_in}
@@ -60,7 +61,7 @@ module _ (object : List ℕ) (files : FilesSide) (input : SourceSide) (out : Sin
       → Follows plain program (verify_plan object script) files files input input out out (back_end end)
   judged_unread script Walked h = absurd h
   judged_unread script (BadLine line) h =
-      subst (λ (r : Result (List Line) ℕ). Follows plain program (judged_by r object) files files input input out out
+      subst (λ (r : Result (List Line) ℕ). Follows plain program (unless_bad_line r object) files files input input out out
       (back_end (BadLine line))) (sym h)
       (course_ends plain program (silent (back_end (BadLine line))) files input out out (back_end (BadLine line))
       (silent_end (back_end (BadLine line)) files input out))
@@ -72,12 +73,12 @@ module _ (object : List ℕ) (files : FilesSide) (input : SourceSide) (out : Sin
   module _ (input' : SourceSide) (out' : SinkSide) (end : Ending) where
     -- the object is opened
     pub walked_opened_to : (code : PlainCode) (lines : List Line) → object_refusal program object ≡ None → code ≡ object_code object
-        → Follows plain program (walked_on (code_reads code) code lines) files files input input' out out' end
+        → Follows plain program (walk_on_plan (code_reads code) code lines) files files input input' out out' end
         → Follows plain program (walk_plan (object_refusal program object) (object_code object) lines) files files input input' out out' end
     walked_opened_to code lines sound is follows =
         subst (λ (o : Option Ending). Follows plain program (walk_plan o (object_code object) lines) files files input input' out out' end)
         (sym sound)
-        (subst (λ (k : PlainCode). Follows plain program (walked_on (code_reads k) k lines) files files input input' out out' end) is
+        (subst (λ (k : PlainCode). Follows plain program (walk_on_plan (code_reads k) k lines) files files input input' out out' end) is
         follows)
 
     -- the script was read
@@ -85,7 +86,7 @@ module _ (object : List ℕ) (files : FilesSide) (input : SourceSide) (out : Sin
         → Follows plain program (walk_plan (object_refusal program object) (object_code object) lines) files files input input' out out' end
         → Follows plain program (verify_plan object script) files files input input' out out' end
     judged_read_to script lines is follows =
-        subst (λ (r : Result (List Line) ℕ). Follows plain program (judged_by r object) files files input input' out out' end)
+        subst (λ (r : Result (List Line) ℕ). Follows plain program (unless_bad_line r object) files files input input' out out' end)
         (sym is) follows
 
 -- a word cannot stand where it is
@@ -100,7 +101,7 @@ bad_followed word files input out =
 own_bad : (word : ℕ) → HasOwnEnds plain (bad_word_plan word)
 own_bad word = own_status _ 2 refl (inl (omega arith))
 
-own_on : (reads : Bool) (code : PlainCode) (lines : List Line) → HasOwnEnds plain (walked_on reads code lines)
+own_on : (reads : Bool) (code : PlainCode) (lines : List Line) → HasOwnEnds plain (walk_on_plan reads code lines)
 own_on true code lines = λ bytes. own_status (prints (session code bytes lines)) 0 refl (inl (omega arith))
 own_on false code lines = own_status (prints (session code [] lines)) 0 refl (inl (omega arith))
 
@@ -109,7 +110,7 @@ own_walked : (refusal : Option Ending) (code : PlainCode) (lines : List Line) �
 own_walked None code lines refused = own_on (code_reads code) code lines
 own_walked (Some end) code lines refused = own_status (silent end) 9 (refused end refl) (inr (omega arith))
 
-own_judged : (r : Result (List Line) ℕ) (object : List ℕ) → HasOwnEnds plain (judged_by r object)
+own_judged : (r : Result (List Line) ℕ) (object : List ℕ) → HasOwnEnds plain (unless_bad_line r object)
 own_judged (Err line) object = own_status _ 13 refl (inr (omega arith))
 own_judged (Ok lines) object = own_walked (object_refusal program object) (object_code object) lines (refusal_status program object)
 

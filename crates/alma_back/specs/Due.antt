@@ -22,27 +22,27 @@ script_limit = 1048576
 -- ---- the plan
 
 -- a code that is walked by lines, where the input is read if the code reads it
-abbrev pub walked_on : (reads : Bool) → PlainCode → List Line → Plan ⊥ Due
-walked_on true code lines = Reads (λ input. prints (session code input lines))
-walked_on false code lines = Ends (prints (session code [] lines))
+abbrev pub walk_on_plan : (reads : Bool) → PlainCode → List Line → Plan ⊥ Due
+walk_on_plan true code lines = Reads (λ input. prints (session code input lines))
+walk_on_plan false code lines = Ends (prints (session code [] lines))
 
 -- the code of an object, unless that is refused
 abbrev pub walk_plan : Option Ending → PlainCode → List Line → Plan ⊥ Due
 walk_plan (Some end) code lines = Ends (silent end)
-walk_plan None code lines = walked_on (code_reads code) code lines
+walk_plan None code lines = walk_on_plan (code_reads code) code lines
 
 -- the end for a line of the script, from 1, that is none
 abbrev pub bad_line : (line : ℕ) → Ending
 bad_line line = tells program exit.own_refusal (codes "bad line " ++ decimal line)
 
 -- both files are there: the first bad line of the script comes before any fault of the object
-abbrev pub judged_by : Result (List Line) ℕ → (object : List ℕ) → Plan ⊥ Due
-judged_by (Err line) object = Ends (silent (bad_line line))
-judged_by (Ok lines) object = walk_plan (object_refusal program object) (object_code object) lines
+abbrev pub unless_bad_line : Result (List Line) ℕ → (object : List ℕ) → Plan ⊥ Due
+unless_bad_line (Err line) object = Ends (silent (bad_line line))
+unless_bad_line (Ok lines) object = walk_plan (object_refusal program object) (object_code object) lines
 
 -- the same by the bytes of both
 abbrev pub verify_plan : (object script : List ℕ) → Plan ⊥ Due
-verify_plan object script = judged_by (lines_in script) object
+verify_plan object script = unless_bad_line (lines_in script) object
 
 -- the files of these names are fetched
 abbrev pub fetch_plan : (object script : List ℕ) → Plan ⊥ Due

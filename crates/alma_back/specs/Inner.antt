@@ -23,7 +23,7 @@ line_of (of_script.Backward steps) = Backward steps
 line_of (of_script.Value name) = Value name.now
 line_of of_script.Output = Output
 
--- those that read ones are
+-- the lines that read ones are
 abbrev pub lines_of : List read.Line → List Line
 lines_of lines = map line_of lines
 

@@ -8,7 +8,7 @@ ghost use Rattle.alma_verify.specs.Verified.{code_of_verified};
 ghost use Rattle.alma_plan.specs.Course.{Follows, Goes};
 ghost use Rattle.alma_plan.specs.Objects.{object_refusal};
 ghost use Rattle.alma_plan.specs.Plan.{Reads, prints, IsDue, plain};
-ghost use Rattle.alma_back.specs.Due.{program, verify_plan, walk_plan, walked_on, script_limit};
+ghost use Rattle.alma_back.specs.Due.{program, verify_plan, walk_plan, walk_on_plan, script_limit};
 ghost use Rattle.alma_back.specs.Ends.{back_end};
 ghost use Rattle.alma_back.specs.Inner.{AreWalkable, lines_of};
 ghost use Rattle.alma_back.specs.Session.{session};
@@ -76,7 +76,7 @@ fn walk<I: Source, O: Sink>(
 ) -> BackEnd
     requires { AreWalkable lines.now }
     ensures { (files : FilesSide) → Follows plain program
-        (walked_on (code_reads (code_of_verified code.entry)) (code_of_verified code.entry)
+        (walk_on_plan (code_reads (code_of_verified code.entry)) (code_of_verified code.entry)
         (lines_of lines.now)) files files (I.side input.old) (I.side input.new) (O.side out.old)
         (O.side out.new) (back_end result) }
 {

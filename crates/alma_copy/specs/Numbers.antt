@@ -1,4 +1,4 @@
--- The new numbers that a value of the crate's Moves stands for.
+-- The new numbers that a value of the code's type Moves stands for; here that type is called Numbers.
 use Rattle.std.specs.Prelude.{ℕ, zero, suc, ◌+◌, List, get_or}
 use Rattle.alma_copy.specs.declared.copy.Moves.{Moves as Numbers}
 use Rattle.alma_copy.specs.Moved.{Moves}
@@ -12,6 +12,6 @@ slot_behind before (suc slot) = suc slot + before
 abbrev pub number_in : List ℕ → ℕ → ℕ
 number_in table r = get_or table r r
 
--- all of them
+-- the new numbers of slots and routines that such a value stands for
 abbrev pub moves_of : Numbers → Moves
 moves_of m = record { own = slot_behind m.own; global = slot_behind m.global; routine = number_in m.routines.now }

@@ -9,6 +9,10 @@ use Rattle.alma_driver_outcome.specs.Ends.{status_of, text_of}
 use Rattle.alma_driver_outcome.specs.Outcome.{Due, Outcome, AskToRead, Lacks}
 use Rattle.alma_driver_outcome.specs.Course.{GainsPrefix, Takes, ReadsWhole, MayRead}
 
+-- what may be due from a call with these words, by what is outside before
+abbrev pub MayCome : (words : List (List ℕ)) → Outside → Due → Type 0
+MayCome words before = Outcome words before.files.told before.input.left
+
 -- the fetch of a file that the words ask to read failed in the call
 abbrev pub FetchFailed : (words : List (List ℕ)) → Outside → Outside → Type 0
 FetchFailed words before after =
@@ -17,7 +21,7 @@ FetchFailed words before after =
 -- a read of the input failed in the call, and what the words ask may read it
 abbrev pub InputFailed : (words : List (List ℕ)) → Outside → Outside → Type 0
 InputFailed words before after =
-    Rose before.input.faults after.input.faults × MayRead (Outcome words before.files.told before.input.left)
+    Rose before.input.faults after.input.faults × MayRead (MayCome words before)
 
 -- a file that is to be stored
 abbrev pub IsStoredName : (Due → Type 0) → List ℕ → Type 0
@@ -34,15 +38,15 @@ pub record Causes (words : List (List ℕ)) (before after : Outside) (status : �
   -- a write fault comes only where a write or a store failed
   pub write_fault : status ≡ exit.write_fault → WriteFailed before after
   -- whatever the status, out gained no more than what is due
-  pub prefix : GainsPrefix (Outcome words before.files.told before.input.left) before.out after.out
+  pub prefix : GainsPrefix (MayCome words before) before.out after.out
   -- and the files stay, but for one that is to be stored
   pub files : FilesStay before.files after.files
-      ⊎ ((name : List ℕ) × IsStoredName (Outcome words before.files.told before.input.left) name × OthersStay before.files after.files name)
+      ⊎ ((name : List ℕ) × IsStoredName (MayCome words before) name × OthersStay before.files after.files name)
   -- at a read fault and at want of memory all of them stay
   pub files_stay : (status ≡ exit.read_fault) ⊎ (status ≡ exit.no_memory) → FilesStay before.files after.files
   -- but for read faults, write faults and want of memory, status, out, err, files and the input are all that is due
   pub whole : (status ≡ exit.read_fault → ⊥) → (status ≡ exit.write_fault → ⊥) → (status ≡ exit.no_memory → ⊥)
-      → (due : Due) × Outcome words before.files.told before.input.left due × (status ≡ status_of due.end)
+      → (due : Due) × MayCome words before due × (status ≡ status_of due.end)
       × Gains before.out after.out due.out × Gains before.err after.err (text_of (file_of words) due.end)
       × Become before.files after.files due.stored × Takes due.reads before.input after.input × ReadsWhole due before.input after.input
   -- a failed write or store is not hidden: write fault, or want of memory
@@ -50,6 +54,6 @@ pub record Causes (words : List (List ℕ)) (before after : Outside) (status : �
   -- nor a failed fetch or read, where no write failed: read fault, or want of memory
   pub reads_shown : ReadsGrew before after → WriteFailed before after ⊎ ((status ≡ exit.read_fault) ⊎ (status ≡ exit.no_memory))
   -- the input stays but where what the words ask may read it
-  pub input : (after.input ≡ before.input) ⊎ MayRead (Outcome words before.files.told before.input.left)
+  pub input : (after.input ≡ before.input) ⊎ MayRead (MayCome words before)
   -- nor that the file is missing
   pub absence_shown : Lacks words before.files.told → (status ≡ exit.read_fault) ⊎ ((status ≡ exit.write_fault) ⊎ (status ≡ exit.no_memory))

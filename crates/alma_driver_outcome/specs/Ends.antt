@@ -82,12 +82,12 @@ rule_line rule at = codes "alma: object Rule " ++ (rule ++ (codes " " ++ (at ++ 
 abbrev pub rule_text : VerifyFault → List ℕ
 rule_text fault = rule_line (decimal fault.rule) (decimal fault.at)
 
--- the line of counts
+-- the line that tells counts, by their texts
 abbrev pub counts_line : (steps choices fails : List ℕ) → List ℕ
 counts_line steps choices fails =
     codes "steps " ++ (steps ++ (codes " choices " ++ (choices ++ (codes " fails " ++ (fails ++ codes "\n")))))
 
--- the same where there are counts
+-- that line where there are counts, and else nothing
 abbrev pub counts_text : Option Counts → List ℕ
 counts_text None = []
 counts_text (Some counts) = counts_line (decimal counts.steps) (decimal counts.choices) (decimal counts.fails)

@@ -12,7 +12,8 @@ use Rattle.alma_driver_words.specs.Words.{IsFileName, IsNumeral, NamesSteps, Nam
 use Rattle.alma_driver_words.specs.Words.{greatest_steps, steps_digits, greatest_lines, lines_digits, greatest_watches}
 use Rattle.alma_driver_words.specs.Words.{Setting, Steps, Stats, Watch, IsSetting}
 use Rattle.alma_driver_words.specs.Words.{AreSettings, Allows, steps_named, stats_count, names_watched}
-use Rattle.alma_driver_words.specs.Words.{Request, Check, Compile, Listing, Run, Exec, Trace, Sample, Asks, IsBadWord, steps_of, is_some}
+use Rattle.alma_driver_words.specs.Words.{Request, Check, Compile, Listing, Run, Exec, Trace, Sample, Asks, IsBadWord, steps_of}
+use Rattle.alma_driver_words.specs.Words.{is_positive}
 use Rattle.alma_driver_words.specs.Inner.Commands.{word_of}
 use Rattle.alma_driver_words.specs.Inner.Settings.{AreOptions, IsBadOption}
 use Rattle.alma_driver_words.proofs.Decidable.{Decidable, no_more, passed, same_text, all_in, has_front}
@@ -238,7 +239,10 @@ run_words (name ∷ words) = by (names_file name) (all_options 1 0 words)
     by : Decidable (IsFileName name) → HasOptions 1 0 words words → HasAnswer (codes "run" ∷ name ∷ words)
     by (inr never) options = inr (2, bad_name commands.Run (name ∷ words) tt never)
     by (inl is) (inl o) =
-        inl (Run name (steps_of (steps_named o.settings)) (is_some (stats_count o.settings)), (words, refl, is, without_names 1 words o))
+        inl (
+          Run name (steps_of (steps_named o.settings)) (is_positive (stats_count o.settings)),
+          (words, refl, is, without_names 1 words o),
+        )
     by (inl is) (inr bad) = inr (bad.0 + 3, bad_run_option name words bad.0 is bad.1)
 
 -- words behind `exec`
@@ -249,7 +253,10 @@ exec_words (object ∷ words) = by (names_file object) (all_options 1 0 words)
     by : Decidable (IsFileName object) → HasOptions 1 0 words words → HasAnswer (codes "exec" ∷ object ∷ words)
     by (inr never) options = inr (2, bad_name commands.Exec (object ∷ words) tt never)
     by (inl is) (inl o) =
-        inl (Exec object (steps_of (steps_named o.settings)) (is_some (stats_count o.settings)), (words, refl, is, without_names 1 words o))
+        inl (
+          Exec object (steps_of (steps_named o.settings)) (is_positive (stats_count o.settings)),
+          (words, refl, is, without_names 1 words o),
+        )
     by (inl is) (inr bad) = inr (bad.0 + 3, bad_exec_option object words bad.0 is bad.1)
 
 -- words behind `trace`

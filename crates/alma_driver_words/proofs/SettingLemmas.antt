@@ -12,8 +12,8 @@ use Rattle.alma_scan.specs.Bytes.{value_of}
 use Rattle.alma_driver_words.specs.declared.options.Allowance.{Allowance}
 use Rattle.alma_driver_words.specs.declared.options.Options as read
 use Rattle.alma_driver_words.specs.Words.{Setting, Steps, Stats, Watch, IsSetting, AreSettings, Allows, Options, texts, steps_named}
-use Rattle.alma_driver_words.specs.Words.{stats_count, names_watched, steps_of, default_steps, greatest_steps, is_some}
-use Rattle.alma_driver_words.specs.Inner.Settings.{list_of, count_of, Gathers, Takes, AreOptions, AreGathered, IsBadOption}
+use Rattle.alma_driver_words.specs.Words.{stats_count, names_watched, steps_of, default_steps, greatest_steps, is_positive}
+use Rattle.alma_driver_words.specs.Inner.Settings.{list_of, one_if, Gathers, Takes, AreOptions, AreGathered, IsBadOption}
 
 -- ---- one option
 
@@ -148,7 +148,7 @@ pub steps_more : (old new : read.Options) (steps : ℕ) → old.steps ≡ None �
 steps_more old new steps free now stats watch settings g = record {
   steps = steps_append settings (Steps steps ∷ []) ∙ ap (λ (z : List ℕ). z ++ steps ∷ []) (g.steps ∙ ap list_of free)
       ∙ sym (ap list_of now);
-  stats = omega (arith, stats_append settings (Steps steps ∷ []), g.stats, ap count_of stats);
+  stats = omega (arith, stats_append settings (Steps steps ∷ []), g.stats, ap one_if stats);
   watch = names_append settings (Steps steps ∷ []) ∙ append-nil (names_watched settings) ∙ g.watch
       ∙ sym (ap (map (λ name. name.now)) watch);
 }
@@ -157,7 +157,7 @@ pub stats_more : (old new : read.Options) → old.stats ≡ false → new.stats 
     → (settings : List Setting) → Gathers old settings → Gathers new (settings ++ Stats ∷ [])
 stats_more old new free now steps watch settings g = record {
   steps = steps_append settings (Stats ∷ []) ∙ append-nil (steps_named settings) ∙ g.steps ∙ sym (ap list_of steps);
-  stats = omega (arith, stats_append settings (Stats ∷ []), g.stats, ap count_of free, ap count_of now);
+  stats = omega (arith, stats_append settings (Stats ∷ []), g.stats, ap one_if free, ap one_if now);
   watch = names_append settings (Stats ∷ []) ∙ append-nil (names_watched settings) ∙ g.watch ∙ sym (ap (map (λ name. name.now)) watch);
 }
 
@@ -166,15 +166,15 @@ pub watch_more : (old new : read.Options) (name : Bor (List ℕ)) → new.watch.
     → (settings : List Setting) → Gathers old settings → Gathers new (settings ++ Watch name.now ∷ [])
 watch_more old new name now steps stats settings g = record {
   steps = steps_append settings (Watch name.now ∷ []) ∙ append-nil (steps_named settings) ∙ g.steps ∙ sym (ap list_of steps);
-  stats = omega (arith, stats_append settings (Watch name.now ∷ []), g.stats, ap count_of stats);
+  stats = omega (arith, stats_append settings (Watch name.now ∷ []), g.stats, ap one_if stats);
   watch = names_append settings (Watch name.now ∷ []) ∙ ap (λ (z : List (List ℕ)). z ++ name.now ∷ []) g.watch
       ∙ sym (map-append (λ name. name.now) old.watch.items (name ∷ [])) ∙ sym (ap (map (λ name. name.now)) now);
 }
 
 -- where there is room for an option, the command allows it
 room_allows : (allowance : Allowance) (options : read.Options) (settings : List Setting) (setting : Setting) → Gathers options settings
-    → Allows (count_of allowance.stats) allowance.watches settings → Takes allowance options setting
-    → Allows (count_of allowance.stats) allowance.watches (settings ++ setting ∷ [])
+    → Allows (one_if allowance.stats) allowance.watches settings → Takes allowance options setting
+    → Allows (one_if allowance.stats) allowance.watches (settings ++ setting ∷ [])
 room_allows allowance options settings (Steps steps) g a t =
     let named = ap length (steps_append settings (Steps steps ∷ [])) in
     let free = ap length (g.steps ∙ ap list_of t) in
@@ -189,7 +189,7 @@ room_allows allowance options settings Stats g a t =
     let names = ap length (names_append settings (Stats ∷ []) ∙ append-nil (names_watched settings)) in
     record {
       few_steps = omega (arith, a.few_steps, named);
-      few_stats = omega (arith, stats_append settings (Stats ∷ []), g.stats, ap count_of t.0, ap count_of t.1);
+      few_stats = omega (arith, stats_append settings (Stats ∷ []), g.stats, ap one_if t.0, ap one_if t.1);
       few_watches = omega (arith, a.few_watches, names);
     }
 room_allows allowance options settings (Watch name) g a t =
@@ -213,7 +213,7 @@ list_of_none : (number : Option ℕ) → length (list_of number) ≤ 0 → numbe
 list_of_none None h = refl
 list_of_none (Some number) h = absurd (omega (arith, h))
 
-count_room : (allowed had : Bool) → count_of had + 1 ≤ count_of allowed → (allowed ≡ true) × (had ≡ false)
+count_room : (allowed had : Bool) → one_if had + 1 ≤ one_if allowed → (allowed ≡ true) × (had ≡ false)
 count_room true false h = (refl, refl)
 count_room true true h = absurd (omega (arith, h))
 count_room false false h = absurd (omega (arith, h))
@@ -221,7 +221,7 @@ count_room false true h = absurd (omega (arith, h))
 
 -- where the command allows one more, there is room for it
 allows_room : (allowance : Allowance) (options : read.Options) (settings : List Setting) (setting : Setting) → Gathers options settings
-    → Allows (count_of allowance.stats) allowance.watches (settings ++ setting ∷ []) → Takes allowance options setting
+    → Allows (one_if allowance.stats) allowance.watches (settings ++ setting ∷ []) → Takes allowance options setting
 allows_room allowance options settings (Steps steps) g a =
     let named = ap length (steps_append settings (Steps steps ∷ [])) in
     let held = ap length g.steps in
@@ -281,17 +281,17 @@ text_at (first ∷ words) (suc index) word lt e = text_at words index word (omeg
 pub option_is_bad : (allowance : Allowance) (words : List (List ℕ)) (index : ℕ) (options : read.Options) → index < length words
     → AreGathered allowance (take index words) options
     → ((setting : Setting) → IsSetting (get_or words index []) setting → Takes allowance options setting → ⊥)
-    → IsBadOption (count_of allowance.stats) allowance.watches words index
+    → IsBadOption (one_if allowance.stats) allowance.watches words index
 option_is_bad allowance words index options lt g bad = record {
   within = lt;
   before = record { settings = g.settings; are = g.are; allowed = g.allowed };
   here = λ more. refuse more;
 } where
-  refuse : AreOptions (count_of allowance.stats) allowance.watches (take (index + 1) words) → ⊥
+  refuse : AreOptions (one_if allowance.stats) allowance.watches (take (index + 1) words) → ⊥
   refuse more =
       let are = subst (λ (z : List (List ℕ)). AreSettings z more.settings) (take_more words index [] lt) more.are in
       let last = last_setting (take index words) (get_or words index []) g.settings more.settings g.are are in
-      let allowed = subst (λ (z : List Setting). Allows (count_of allowance.stats) allowance.watches z) last.1 more.allowed in
+      let allowed = subst (λ (z : List Setting). Allows (one_if allowance.stats) allowance.watches z) last.1 more.allowed in
       bad last.0 last.2 (allows_room allowance options g.settings last.0 g.gathers allowed)
 
 -- ---- what options come to
@@ -311,13 +311,13 @@ no_names : (names : List (List ℕ)) → length names ≤ 0 → [] ≡ names
 no_names [] h = refl
 no_names (name ∷ names) h = absurd (omega (arith, h))
 
-no_stats : (count : ℕ) → count ≤ 0 → false ≡ is_some count
+no_stats : (count : ℕ) → count ≤ 0 → false ≡ is_positive count
 no_stats zero h = refl
 no_stats (suc count) h = absurd (omega (arith, h))
 
 -- options of a command that watches no names
 pub without_names : (stats : ℕ) (words : List (List ℕ)) (o : AreOptions stats 0 words)
-    → Options stats 0 words (steps_of (steps_named o.settings)) (is_some (stats_count o.settings)) []
+    → Options stats 0 words (steps_of (steps_named o.settings)) (is_positive (stats_count o.settings)) []
 without_names stats words o = record {
   settings = o.settings;
   are = o.are;
@@ -367,6 +367,6 @@ pub one_meaning : (stats watches : ℕ) (words : List (List ℕ)) (steps others 
 one_meaning stats watches words steps others counted shown names watched h k =
     let same : h.settings ≡ k.settings = are_once words h.settings k.settings h.are k.are in (
       h.steps_are ∙ ap (λ (s : List Setting). steps_of (steps_named s)) same ∙ sym k.steps_are,
-      h.stats_are ∙ ap (λ (s : List Setting). is_some (stats_count s)) same ∙ sym k.stats_are,
+      h.stats_are ∙ ap (λ (s : List Setting). is_positive (stats_count s)) same ∙ sym k.stats_are,
       h.names_are ∙ ap names_watched same ∙ sym k.names_are,
     )

@@ -129,15 +129,15 @@ pub record Allows (stats watches : ℕ) (settings : List Setting) : Type 0 where
   pub few_stats : stats_count settings ≤ stats
   pub few_watches : length (names_watched settings) ≤ watches
 
--- the number of steps that options name, where there is one
+-- the number of steps by those that options name: the first of them, or the default where there is none
 abbrev pub steps_of : (named : List ℕ) → ℕ
 steps_of [] = default_steps
 steps_of (steps ∷ more) = steps
 
--- whether there is an option for statistics
-abbrev pub is_some : ℕ → Bool
-is_some zero = false
-is_some (suc more) = true
+-- a count is not zero
+abbrev pub is_positive : ℕ → Bool
+is_positive zero = false
+is_positive (suc more) = true
 
 -- the options behind the names of a command, with what they come to
 pub record Options (stats watches : ℕ) (words : List (List ℕ)) (steps : ℕ) (with_stats : Bool) (names : List (List ℕ)) : Type 0 where
@@ -145,7 +145,7 @@ pub record Options (stats watches : ℕ) (words : List (List ℕ)) (steps : ℕ)
   pub are : AreSettings words settings
   pub allowed : Allows stats watches settings
   pub steps_are : steps ≡ steps_of (steps_named settings)
-  pub stats_are : with_stats ≡ is_some (stats_count settings)
+  pub stats_are : with_stats ≡ is_positive (stats_count settings)
   pub names_are : names ≡ names_watched settings
 
 -- ---- requests

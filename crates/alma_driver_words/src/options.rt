@@ -80,7 +80,7 @@ impl<'w> Options<'w> {
         Ok(())
     }
 
-    /// The number of steps that they name, where one does.
+    /// The number of steps that they name, or 1,000,000,000 where they name none.
     pub fn step_limit(&self) -> u64
         ensures { result ≡ plain.steps_of (list_of self.now.steps) }
     {
@@ -88,7 +88,7 @@ impl<'w> Options<'w> {
     }
 }
 
-/// The options that words are, the third words of a request and those behind it.
+/// The options that words are: the third word of a request and those behind it.
 pub fn read_options<'w>(
     alloc: Global,
     allowance: Allowance,

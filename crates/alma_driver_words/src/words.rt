@@ -191,7 +191,7 @@ fn read_sample(words: &[String]) -> Result<Request<'_>, WordsError>
     }
 }
 
-/// The word that names the file, empty where there is none.
+/// The second word, which names the file of a refusal; empty where there is none.
 pub fn file_word(words: &[String]) -> &str
     ensures { result.now ≡ file_of (texts words.now) }
 {

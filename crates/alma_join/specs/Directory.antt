@@ -62,13 +62,13 @@ abbrev pub others : (unit : ℕ) → List PlainExport → List (ℕ × Routine)
 others unit [] = []
 others unit (e ∷ rest) = if_true (nat_eq e.unit unit) (λ _. others unit rest) (λ _. (e.number, e.routine) ∷ others unit rest)
 
--- there are two
+-- there are two matches at least
 abbrev pub AreMany : List (ℕ × Routine) → Type 0
 AreMany [] = ⊥
 AreMany (m ∷ []) = ⊥
 AreMany (m ∷ (m2 ∷ rest)) = Unit {0}
 
--- these are the matches
+-- the answer tells these matches: that there is none, the only one, or that there are two at least
 abbrev pub IsAnswer : Matches → List (ℕ × Routine) → Type 0
 IsAnswer answer.None all = all ≡ []
 IsAnswer (answer.One e) all = all ≡ (e.number, routine_of e.routine.now) ∷ []

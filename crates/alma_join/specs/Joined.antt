@@ -201,11 +201,11 @@ join_fault units = or_next (import_fault (kept_in 1 units) 1 units) (λ _. size_
 
 -- ---- the program
 
--- how the body of a module, and how its procedures, are numbered anew
+-- how the body of a module is numbered anew: its slots stand behind those of the modules before
 abbrev pub body_moves : List Kept → (unit : ℕ) → Program → (before : ℕ) → Moves
 body_moves all unit p before = record { own = slot_behind before; global = slot_behind before; routine = new_number all unit p }
 
--- in a procedure its own slots stay
+-- how a procedure of it is numbered anew: its own slots stay
 abbrev pub procedure_moves : List Kept → (unit : ℕ) → Program → (before : ℕ) → Moves
 procedure_moves all unit p before = record { own = λ slot. slot; global = slot_behind before; routine = new_number all unit p }
 
@@ -213,7 +213,7 @@ procedure_moves all unit p before = record { own = λ slot. slot; global = slot_
 abbrev pub global_behind : (before : ℕ) → Global → Global
 global_behind before g = record g { slot = slot_behind before g.slot }
 
--- the parts of all modules in order, `before` the slots of the modules before
+-- the globals of all modules in their order, moved behind the slots of the modules before, of which there are `before`
 abbrev pub joined_globals : (before : ℕ) → List Program → List Global
 joined_globals before [] = []
 joined_globals before (p ∷ ps) = map (global_behind before) p.globals ++ joined_globals (before + own_slots p) ps
@@ -254,7 +254,7 @@ joined_body units = record (routine_at (first_of units) 0) {
   lines = joined_lines units;
 }
 
--- the whole
+-- the joined program: the first module's name, the globals of all, their bodies as one, and the procedures that stay
 abbrev pub joined_program : List Program → Program
 joined_program units = record {
   name = (first_of units).name;

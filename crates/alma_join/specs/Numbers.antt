@@ -37,6 +37,6 @@ NumbersUnits all unit [] (table ∷ tables) = ⊥
 NumbersUnits all unit (p ∷ ps) [] = ⊥
 NumbersUnits all unit (p ∷ ps) (table ∷ tables) = NumbersUnit all unit p table × NumbersUnits all (suc unit) ps tables
 
--- a table in memory
+-- the numbers of a table in memory
 abbrev pub numbers_in : Vec ℕ Global → List ℕ
 numbers_in v = v.items

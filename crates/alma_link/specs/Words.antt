@@ -46,7 +46,7 @@ request_of (word ∷ words) = request_behind (bytes_eq word (codes "run")) (byte
 
 -- ---- the same, as a reader knows it
 
--- from 1 to 16 files
+-- names of files, from 1 to 16
 pub record AreFiles (files : List (List ℕ)) : Type 0 where
   pub names : AreFileNames files
   pub some : 1 ≤ length files

@@ -52,7 +52,7 @@ write_globals before [] rest = rest
 write_globals before (g ∷ gs) rest =
     more_stmts 0 (WriteText (before ++ g.name ++ codes "=")) (write_cells g.slot g.cells (write_globals (codes " ") gs rest))
 
--- the line
+-- the line of all globals, between braces and with a line feed
 abbrev pub write_line : List Global → Stmts
 write_line gs = more_stmts 0 (WriteText (codes "{")) (write_globals [] gs (more_stmts 0 (WriteText (125 ∷ 10 ∷ [])) no_stmts))
 
@@ -96,6 +96,6 @@ abbrev pub listing_routines : List Routine → List Global → List Routine
 listing_routines [] gs = []
 listing_routines (body ∷ rest) gs = listing_body body (suc (length rest)) ∷ (rest ++ (lister body.line gs ∷ []))
 
--- the whole
+-- the program that lists a program: its name and globals, and its routines with the procedure
 abbrev pub listing_of : Program → Program
 listing_of p = record { name = p.name; globals = p.globals; routines = listing_routines p.routines p.globals }

@@ -45,7 +45,7 @@ abbrev pub globals_text : Store → List Global → List ℕ
 globals_text s [] = []
 globals_text s (g ∷ gs) = global_text s g ++ more_globals s gs
 
--- the line
+-- the line of a store: the globals with their values, between braces, and a line feed
 abbrev pub line_of_store : List Global → Store → List ℕ
 line_of_store gs s = 123 ∷ globals_text s gs ++ (125 ∷ 10 ∷ [])
 

@@ -29,7 +29,7 @@ two_of_three =
 abbrev pub prints_seven : Program
 prints_seven = module_of 1 (write (number 7) ∷ fail ∷ [])
 
--- VAR r: RECORD END; a: ARRAY [1..3] OF INTEGER; BEGIN a[2] := 5; WRITE(a[2])
+-- VAR r: RECORD END; a: ARRAY [1..3] OF INTEGER; BEGIN a[2] := 5; WRITE(5)
 abbrev pub an_array : Program
 an_array =
     with_globals (global_at (codes "r") 1 0 ∷ global_at (codes "a") 1 3 ∷ [])

@@ -16,14 +16,14 @@ use Rattle.alma_plan.specs.declared.stop.Stop.TheVariants.{Read, Write, Memory, 
 
 -- ---- what stops any call
 
--- its status
+-- the status of a call that was stopped
 abbrev pub stop_status : Stop → ℕ
 stop_status Read = exit.read_fault
 stop_status Write = exit.write_fault
 stop_status Memory = exit.no_memory
 stop_status TooLong = exit.too_long
 
--- its text, behind the name of the program
+-- what is said of it on err, behind the name of the program
 abbrev pub stop_text : Stop → List ℕ
 stop_text Read = codes "read fault"
 stop_text Write = codes "write fault"

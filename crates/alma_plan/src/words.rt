@@ -8,8 +8,9 @@ use alma_driver_words::is_file_name;
 /// The greatest number of files.
 const GREATEST_FILES: usize = 16;
 
-/// The first word, from 1, that is no file or one too many, or one more than there are where none is
-/// a file, behind so many words, of which those before the files are `before`.
+/// The number, from 1, of the first of these words that names no file or is one too many; or one
+/// more than there are, where there is no file. `seen` words stand in front, `before` of them no
+/// files.
 pub fn bad_file(before: usize, seen: usize, words: &[String]) -> Option<usize>
     requires few { before ≤ 2 }
     requires within { seen ≤ before + greatest_files }

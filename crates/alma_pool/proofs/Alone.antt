@@ -6,7 +6,8 @@ use Rattle.std.specs.Prelude.{◌⊎◌, eqb, cond}
 use Rattle.alma_code.specs.Machine.{State, step, after, prints, start}
 use Rattle.alma_code.specs.Plain.{PlainCode}
 use Rattle.alma_machine.proofs.Budget.{after_more, prints_more, prints_sum}
-use Rattle.alma_pool.specs.Pool.{PlayerState, PoolView, Lone, lone, seen_of, player_at_start, take_turn, no_program, program_at, after_turn}
+use Rattle.alma_pool.specs.Pool.{PlayerState, PoolView, LoneRun, lone_run, seen_of, player_at_start, take_turn, no_program, program_at}
+use Rattle.alma_pool.specs.Pool.{after_turn}
 use Rattle.alma_pool.specs.Pool.{after_turns}
 use Rattle.alma_pool.specs.Pool.{turns_of, ended_in}
 use Rattle.alma_pool.specs.Laws.{RunAlone, PrintsFront}
@@ -34,9 +35,10 @@ at_more code input turns p h =
     }
 
 -- what is seen of it is what is seen alone
-seen_alone : (code : PlainCode) (input : List ℕ) (turns : ℕ) (p : PlayerState) → IsAt code input turns p → seen_of p ≡ lone code input turns
+seen_alone : (code : PlainCode) (input : List ℕ) (turns : ℕ) (p : PlayerState) → IsAt code input turns p
+    → seen_of p ≡ lone_run code input turns
 seen_alone code input turns p h =
-    let made : State → List ℕ → Lone = λ s o. record { steps = s.steps; output = o; end = ended_in s.mode } in
+    let made : State → List ℕ → LoneRun = λ s o. record { steps = s.steps; output = o; end = ended_in s.mode } in
     ap (λ s. made s p.output) h.state_is ∙ ap (made (after code input turns (start code))) h.output_is
 
 -- what one turn of some program makes of it
@@ -92,5 +94,5 @@ prints_front pool turns k code input more there e =
     let t = turns_of k turns in
     let rest = prints code input more (after code input t (start code)) in
     let same : (program_at (after_turns pool turns) k).output ≡ prints code input t (start code) =
-    ap (λ (l : Lone). l.output) (run_alone pool turns k code input there e) in
+    ap (λ (l : LoneRun). l.output) (run_alone pool turns k code input there e) in
     (rest, prints_sum code input t more (start code) ∙ ap (λ o. o ++ rest) (sym same))

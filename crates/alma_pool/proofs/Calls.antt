@@ -16,7 +16,8 @@ use Rattle.alma_plan.specs.Undisturbed.{ShowsDue}
 use Rattle.alma_plan.proofs.SpelledObjects.{spelled_short}
 use Rattle.alma_plan.proofs.ToldLemmas.{fetch_asks, fetch_comes, read_comes}
 use Rattle.alma_plan.proofs.UndisturbedLemmas.{call_shows_due}
-use Rattle.alma_pool.specs.Due.{program, turns_limit, turns_in, bad_turn_behind, pool_text, open_objects, played_on, play_plan, judged_by}
+use Rattle.alma_pool.specs.Due.{program, turns_limit, turns_in, bad_turn_behind, pool_text, open_objects, play_on_plan, play_plan}
+use Rattle.alma_pool.specs.Due.{unless_bad_turn}
 use Rattle.alma_pool.specs.Due.{verify_plan}
 use Rattle.alma_pool.specs.Due.{objects_plan, fetch_plan, pool_plan}
 use Rattle.alma_pool.specs.Shown.{HaveObjectsOf, PlaysPrograms, ShowsPrograms}
@@ -35,7 +36,7 @@ module _ (told : List ℕ → Told) where
 -- ---- no file is missing
 
 module _ (told : List ℕ → Told) (name : List ℕ) (missing : told name ≡ Missing) where
-  played_lacks : (reads : Bool) (all : List PlainCode) (turns : List ℕ) → AsksOf told (played_on reads all turns) name → ⊥
+  played_lacks : (reads : Bool) (all : List PlainCode) (turns : List ℕ) → AsksOf told (play_on_plan reads all turns) name → ⊥
   played_lacks true all turns asks = asks
   played_lacks false all turns asks = asks
 
@@ -43,7 +44,7 @@ module _ (told : List ℕ → Told) (name : List ℕ) (missing : told name ≡ M
   opened_lacks (Ok all) turns asks = played_lacks (list_any code_reads all) all turns asks
   opened_lacks (Err end) turns asks = asks
 
-  judged_lacks : (bad : Option ℕ) (turns : List ℕ) (objects : List (List ℕ)) → AsksOf told (judged_by bad turns objects) name → ⊥
+  judged_lacks : (bad : Option ℕ) (turns : List ℕ) (objects : List (List ℕ)) → AsksOf told (unless_bad_turn bad turns objects) name → ⊥
   judged_lacks None turns objects asks = opened_lacks (open_objects [] objects) (turns_in turns) asks
   judged_lacks (Some turn) turns objects asks = asks
 
@@ -72,7 +73,7 @@ module _ (told : List ℕ → Told) (left : Option (List ℕ)) (reading : Readin
 
   -- all codes are there, and the input, where one of them reads
   played_comes : (reads : Bool) (all : List PlainCode) → list_any code_reads all ≡ reads
-      → (reads ≡ true → left ≡ Some input) → MayCome (played_on reads all turns) → due ≡ prints (pool_text 0 all input turns)
+      → (reads ≡ true → left ≡ Some input) → MayCome (play_on_plan reads all turns) → due ≡ prints (pool_text 0 all input turns)
   played_comes true all is there c =
       read_comes plain program told left reading due input (λ bytes. prints (pool_text 0 all bytes turns)) (there refl) short c
   played_comes false all is there h = h.1 ∙ ap (λ (text : List ℕ). prints text) (pool_alike 0 all [] input turns is)
@@ -120,7 +121,7 @@ module _ (words : List (List ℕ)) (turns : List ℕ) (programs : List Program) 
       let fetched = fetch_comes plain program before.files.told before.input.left reading due a.file turns turns_limit
       (λ b. objects_plan b [] a.files) a.turns_told a.turns_short c in
       let there = files_come before.files.told before.input.left reading due turns [] a.files a.objects programs a.told fetched in
-      let good = subst (λ (bad : Option ℕ). MayComeOf reading due (judged_by bad turns a.objects)) turns_are_good there in
+      let good = subst (λ (bad : Option ℕ). MayComeOf reading due (unless_bad_turn bad turns a.objects)) turns_are_good there in
       let opened = subst (λ (r : Result (List PlainCode) Ending). MayComeOf reading due (play_plan r (turns_in turns)))
       (objects_open before.files.told [] a.files a.objects programs a.told) good in
       played_comes before.files.told before.input.left reading due (turns_in turns) input a.input_short (list_any code_reads all) all refl

@@ -13,7 +13,7 @@ use Rattle.alma_plan.specs.Refusals.{refusal_end}
 use Rattle.alma_plan.specs.declared.refusal.Refusal.{Refusal}
 use Rattle.alma_plan.proofs.Courses.{course_ends, course_starved, gains_none}
 use Rattle.alma_plan.specs.Objects.{object_refusal}
-use Rattle.alma_pool.specs.Due.{program, or_refused, open_objects, play_plan, judged_by, verify_plan, bad_turn_behind, turns_in}
+use Rattle.alma_pool.specs.Due.{program, or_refused, open_objects, play_plan, unless_bad_turn, verify_plan, bad_turn_behind, turns_in}
 use Rattle.alma_pool.specs.Inner.{codes_of, IsRefused}
 
 -- as many codes as objects
@@ -59,7 +59,7 @@ module _ (turns : List ℕ) (objects : List (List ℕ)) (files : FilesSide) (inp
       → Follows plain program (verify_plan turns objects) files files input input out out
       (tells program 13 (codes "bad turn " ++ decimal turn))
   judged_bad turn e =
-      subst (λ (bad : Option ℕ). Follows plain program (judged_by bad turns objects) files files input input out out
+      subst (λ (bad : Option ℕ). Follows plain program (unless_bad_turn bad turns objects) files files input input out out
       (tells program 13 (codes "bad turn " ++ decimal turn))) (sym e)
       (silent_end (tells program 13 (codes "bad turn " ++ decimal turn)) files input out)
 
@@ -68,4 +68,5 @@ module _ (turns : List ℕ) (objects : List (List ℕ)) (files : FilesSide) (inp
       → Follows plain program (play_plan (open_objects [] objects) (turns_in turns)) files files input input' out out' end
       → Follows plain program (verify_plan turns objects) files files input input' out out' end
   judged_good end e follows =
-      subst (λ (bad : Option ℕ). Follows plain program (judged_by bad turns objects) files files input input' out out' end) (sym e) follows
+      subst (λ (bad : Option ℕ). Follows plain program (unless_bad_turn bad turns objects) files files input input' out out' end) (sym e)
+      follows

@@ -19,7 +19,7 @@ use Rattle.alma_plan.proofs.SpelledObjects.{spelled_accepted}
 use Rattle.alma_run_laws.proofs.Unread.{after_alike, prints_alike}
 use Rattle.alma_verify.specs.Bytes.{object_code}
 use Rattle.alma_pool.specs.Due.{program, or_refused, open_objects, end_text, program_lines, program_text, pool_text}
-use Rattle.alma_pool.specs.Pool.{lone, ended_in, turns_of}
+use Rattle.alma_pool.specs.Pool.{lone_run, ended_in, turns_of}
 use Rattle.alma_pool.specs.Shown.{HaveObjectsOf, ShowsEach, none as none_shown, one_more as one_more_shown, meant_words}
 
 -- the codes of objects
@@ -44,7 +44,7 @@ abbrev lines_at : (number : ℕ) → State → (output : List ℕ) → List ℕ
 lines_at number s output = program_lines number (end_text (ended_in s.mode)) output
 
 program_alike : (number : ℕ) (code : PlainCode) (one other : List ℕ) (steps : ℕ) → code_reads code ≡ false
-    → program_text number (lone code one steps) ≡ program_text number (lone code other steps)
+    → program_text number (lone_run code one steps) ≡ program_text number (lone_run code other steps)
 program_alike number code one other steps none =
     ap (λ (s : State). lines_at number s (prints code one steps (start code))) (after_alike code one other steps (start code) none)
     ∙ ap (λ (output : List ℕ). lines_at number (after code other steps (start code)) output)
@@ -63,7 +63,7 @@ pool_alike before (code ∷ all) one other turns none =
     let both = neither (code_reads code) (list_any code_reads all) none in
     ap (λ (text : List ℕ). text ++ pool_text (before + 1) all one turns)
     (program_alike (before + 1) code one other (turns_of before turns) both.0)
-    ∙ ap (λ (text : List ℕ). program_text (before + 1) (lone code other (turns_of before turns)) ++ text)
+    ∙ ap (λ (text : List ℕ). program_text (before + 1) (lone_run code other (turns_of before turns)) ++ text)
     (pool_alike (before + 1) all one other turns both.1)
 
 -- ---- all objects

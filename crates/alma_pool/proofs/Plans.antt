@@ -10,7 +10,8 @@ use Rattle.alma_plan.specs.Plan.{Ending, silent, prints, plain}
 use Rattle.alma_plan.specs.Words.{bad_file}
 use Rattle.alma_plan.proofs.OwnEnds.{HasOwnEnds}
 use Rattle.alma_plan.proofs.PlainEnds.{own_status, refusal_status}
-use Rattle.alma_pool.specs.Due.{program, pool_text, or_refused, open_objects, played_on, play_plan, judged_by, objects_plan, fetch_plan}
+use Rattle.alma_pool.specs.Due.{program, pool_text, or_refused, open_objects, play_on_plan, play_plan, unless_bad_turn, objects_plan}
+use Rattle.alma_pool.specs.Due.{fetch_plan}
 use Rattle.alma_pool.specs.Due.{words_plan, pool_plan}
 
 -- ---- objects
@@ -31,7 +32,7 @@ opening_status got (bytes ∷ objects) end e =
 
 -- ---- all its ends
 
-own_on : (reads : Bool) (all : List PlainCode) (turns : List ℕ) → HasOwnEnds plain (played_on reads all turns)
+own_on : (reads : Bool) (all : List PlainCode) (turns : List ℕ) → HasOwnEnds plain (play_on_plan reads all turns)
 own_on true all turns = λ bytes. own_status (prints (pool_text 0 all bytes turns)) 0 refl (inl (omega arith))
 own_on false all turns = own_status (prints (pool_text 0 all [] turns)) 0 refl (inl (omega arith))
 
@@ -40,7 +41,7 @@ own_played : (opened : Result (List PlainCode) Ending) (turns : List ℕ) → ((
 own_played (Ok all) turns refused = own_on (list_any code_reads all) all turns
 own_played (Err end) turns refused = own_status (silent end) 9 (refused end refl) (inr (omega arith))
 
-own_judged : (bad : Option ℕ) (turns : List ℕ) (objects : List (List ℕ)) → HasOwnEnds plain (judged_by bad turns objects)
+own_judged : (bad : Option ℕ) (turns : List ℕ) (objects : List (List ℕ)) → HasOwnEnds plain (unless_bad_turn bad turns objects)
 own_judged None turns objects = own_played (open_objects [] objects) _ (opening_status [] objects)
 own_judged (Some turn) turns objects = own_status _ 13 refl (inr (omega arith))
 

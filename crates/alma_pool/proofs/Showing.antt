@@ -8,7 +8,8 @@ use Rattle.alma_code.specs.declared.step.End.TheVariants as ended
 use Rattle.alma_code.specs.Plain.{PlainCode}
 use Rattle.alma_pool.specs.Due.{program_lines, program_text, end_text, pool_text}
 use Rattle.alma_pool.specs.Inner.{end_word, fault_word, shown_text, players_at_start}
-use Rattle.alma_pool.specs.Pool.{PlayerState, PoolView, Lone, lone, seen_of, player_at_start, ended_in, no_code, no_program, program_at}
+use Rattle.alma_pool.specs.Pool.{PlayerState, PoolView, LoneRun, lone_run, seen_of, player_at_start, ended_in, no_code, no_program}
+use Rattle.alma_pool.specs.Pool.{program_at}
 use Rattle.alma_pool.specs.Pool.{after_turns}
 use Rattle.alma_pool.specs.Pool.{turns_of}
 use Rattle.alma_pool.proofs.Alone.{run_alone}
@@ -91,21 +92,22 @@ shown_more ps k within =
 
 -- what is shown of programs that stand where each would stand alone
 shown_is : (before : ℕ) (ps : List PlayerState) (codes : List PlainCode) (input turns : List ℕ) → length ps ≡ length codes
-    → ((k : ℕ) → k < length codes → seen_of (get_or ps k no_program) ≡ lone (get_or codes k no_code) input (turns_of (before + k) turns))
+    → ((k : ℕ) → k < length codes → seen_of (get_or ps k no_program) ≡ lone_run (get_or codes k no_code) input
+    (turns_of (before + k) turns))
     → shown_text before ps ≡ pool_text before codes input turns
 shown_is before [] [] input turns e each = refl
 shown_is before [] (code ∷ codes) input turns e each = absurd (omega (arith, e))
 shown_is before (p ∷ ps) [] input turns e each = absurd (omega (arith, e))
 shown_is before (p ∷ ps) (code ∷ codes) input turns e each =
     let none : before + zero ≡ before = omega arith in
-    let first : seen_of p ≡ lone code input (turns_of before turns) = each zero (omega arith)
-    ∙ ap (λ n. lone code input (turns_of n turns)) none in
+    let first : seen_of p ≡ lone_run code input (turns_of before turns) = each zero (omega arith)
+    ∙ ap (λ n. lone_run code input (turns_of n turns)) none in
     let rest : shown_text (before + 1) ps ≡ pool_text (before + 1) codes input turns =
     shown_is (before + 1) ps codes input turns (omega (arith, e)) (λ k within.
     let one : before + suc k ≡ before + 1 + k = omega arith in
-    each (suc k) (omega (arith, within)) ∙ ap (λ n. lone (get_or codes k no_code) input (turns_of n turns)) one) in
-    ap (λ (l : Lone). program_text (before + 1) l ++ shown_text (before + 1) ps) first
-    ∙ ap (λ z. program_text (before + 1) (lone code input (turns_of before turns)) ++ z) rest
+    each (suc k) (omega (arith, within)) ∙ ap (λ n. lone_run (get_or codes k no_code) input (turns_of n turns)) one) in
+    ap (λ (l : LoneRun). program_text (before + 1) l ++ shown_text (before + 1) ps) first
+    ∙ ap (λ z. program_text (before + 1) (lone_run code input (turns_of before turns)) ++ z) rest
 
 -- all turns were made by codes from their start
 pub shown_alone : (codes : List PlainCode) (input turns : List ℕ) (before now : PoolView)
@@ -121,4 +123,4 @@ shown_alone codes input turns before now start is count =
     ap (λ (p : PoolView). program_at p k) start ∙ get_or-map begin codes k no_code no_program within in
     let none : k ≡ 0 + k = omega arith in
     ap (λ (p : PoolView). seen_of (program_at p k)) is ∙ run_alone before turns k (get_or codes k no_code) input there at
-    ∙ ap (λ n. lone (get_or codes k no_code) input (turns_of n turns)) none)
+    ∙ ap (λ n. lone_run (get_or codes k no_code) input (turns_of n turns)) none)

@@ -13,7 +13,7 @@ use Rattle.alma_plan.specs.Plan.{Due, Ending, Plan, Fetches, Reads, Ends, silent
 use Rattle.alma_plan.specs.Objects.{object_refusal}
 use Rattle.alma_plan.specs.Words.{bad_file}
 use Rattle.alma_driver_words.specs.Exit as exit
-use Rattle.alma_pool.specs.Pool.{Lone, lone, turns_of}
+use Rattle.alma_pool.specs.Pool.{LoneRun, lone_run, turns_of}
 
 -- the name of the program
 abbrev pub program : List ℕ
@@ -63,14 +63,14 @@ program_lines number ended output =
     ++ (ended ++ (codes " bytes " ++ (decimal (length output) ++ (codes "\n" ++ (output ++ codes "\n")))))))
 
 -- the same by what is seen of its run
-abbrev pub program_text : (number : ℕ) → Lone → List ℕ
+abbrev pub program_text : (number : ℕ) → LoneRun → List ℕ
 program_text number l = program_lines number (end_text l.end) l.output
 
 -- The lines of these programs, which stand behind so many others: each shows its run alone, for as many turns as are its own.
 abbrev pub pool_text : (before : ℕ) → List PlainCode → (input : List ℕ) → (turns : List ℕ) → List ℕ
 pool_text before [] input turns = []
 pool_text before (code ∷ more) input turns =
-    program_text (before + 1) (lone code input (turns_of before turns)) ++ pool_text (before + 1) more input turns
+    program_text (before + 1) (lone_run code input (turns_of before turns)) ++ pool_text (before + 1) more input turns
 
 -- ---- the objects
 
@@ -87,27 +87,27 @@ open_objects got (bytes ∷ objects) = or_refused (object_refusal program bytes)
 -- ---- the plan
 
 -- codes that take turns, where the input is read if one of them reads it
-abbrev pub played_on : (reads : Bool) → List PlainCode → (turns : List ℕ) → Plan ⊥ Due
-played_on true all turns = Reads (λ input. prints (pool_text 0 all input turns))
-played_on false all turns = Ends (prints (pool_text 0 all [] turns))
+abbrev pub play_on_plan : (reads : Bool) → List PlainCode → (turns : List ℕ) → Plan ⊥ Due
+play_on_plan true all turns = Reads (λ input. prints (pool_text 0 all input turns))
+play_on_plan false all turns = Ends (prints (pool_text 0 all [] turns))
 
 -- codes take turns, unless an object was refused
 abbrev pub play_plan : Result (List PlainCode) Ending → (turns : List ℕ) → Plan ⊥ Due
-play_plan (Ok all) turns = played_on (list_any code_reads all) all turns
+play_plan (Ok all) turns = play_on_plan (list_any code_reads all) all turns
 play_plan (Err end) turns = Ends (silent end)
 
 -- the end for a byte, from 1, that may not stand in the file of turns
 abbrev pub bad_turn : (turn : ℕ) → Ending
 bad_turn turn = tells program exit.own_refusal (codes "bad turn " ++ decimal turn)
 
--- all files are there
-abbrev pub judged_by : (bad : Option ℕ) → (turns : List ℕ) → (objects : List (List ℕ)) → Plan ⊥ Due
-judged_by (Some turn) turns objects = Ends (silent (bad_turn turn))
-judged_by None turns objects = play_plan (open_objects [] objects) (turns_in turns)
+-- all files are there: the first bad byte of the file of turns is told; without one the objects are opened, and take turns
+abbrev pub unless_bad_turn : (bad : Option ℕ) → (turns : List ℕ) → (objects : List (List ℕ)) → Plan ⊥ Due
+unless_bad_turn (Some turn) turns objects = Ends (silent (bad_turn turn))
+unless_bad_turn None turns objects = play_plan (open_objects [] objects) (turns_in turns)
 
 -- the first bad byte of the file of turns comes before any fault of an object
 abbrev pub verify_plan : (turns : List ℕ) → (objects : List (List ℕ)) → Plan ⊥ Due
-verify_plan turns objects = judged_by (bad_turn_behind (length objects) 0 turns) turns objects
+verify_plan turns objects = unless_bad_turn (bad_turn_behind (length objects) 0 turns) turns objects
 
 -- the objects of these names are fetched, behind those that were
 abbrev pub objects_plan : (turns : List ℕ) → (got : List (List ℕ)) → (names : List (List ℕ)) → Plan ⊥ Due

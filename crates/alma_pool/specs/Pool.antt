@@ -12,14 +12,14 @@ ended_in (Ended end) = Some end
 ended_in Stuck = None
 
 -- what is seen of a run: its steps, its prints, and its end, where it has one
-pub record Lone : Type 0 where
+pub record LoneRun : Type 0 where
   pub steps : ℕ
   pub output : List ℕ
   pub end : Option End
 
 -- the run of a code alone for so many turns, or to its end where that is sooner: an ended machine stays as it is, and prints nothing
-abbrev pub lone : PlainCode → (input : List ℕ) → (turns : ℕ) → Lone
-lone code input turns = record {
+abbrev pub lone_run : PlainCode → (input : List ℕ) → (turns : ℕ) → LoneRun
+lone_run code input turns = record {
   steps = (after code input turns (start code)).steps;
   output = prints code input turns (start code);
   end = ended_in (after code input turns (start code)).mode;
@@ -33,7 +33,7 @@ pub record PlayerState : Type 0 where
   pub output : List ℕ
 
 -- what is seen of it
-abbrev pub seen_of : PlayerState → Lone
+abbrev pub seen_of : PlayerState → LoneRun
 seen_of p = record { steps = p.state.steps; output = p.output; end = ended_in p.state.mode }
 
 -- a program before its first turn
@@ -53,7 +53,7 @@ pub record PoolView : Type 0 where
 abbrev pub no_code : PlainCode
 no_code = record { version = 0; globals = []; routines = []; ranges = []; texts = []; instrs = []; lines = [] }
 
--- that program
+-- what stands for a program that is not there: one of that code, on an empty input
 abbrev pub no_program : PlayerState
 no_program = player_at_start no_code []
 

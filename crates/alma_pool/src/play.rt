@@ -6,7 +6,7 @@ ghost use Rattle.alma_code.specs.Reads.{code_reads};
 ghost use Rattle.alma_io.specs.Sides.{FilesSide};
 ghost use Rattle.alma_plan.specs.Course.{Follows, Goes};
 ghost use Rattle.alma_plan.specs.Plan.{Reads, prints, IsDue, plain};
-ghost use Rattle.alma_pool.specs.Due.{program, bad_turn_behind, verify_plan, open_objects, play_plan, played_on, pool_text, turns_in, turns_limit};
+ghost use Rattle.alma_pool.specs.Due.{program, bad_turn_behind, verify_plan, open_objects, play_plan, play_on_plan, pool_text, turns_in, turns_limit};
 ghost use Rattle.alma_pool.specs.Ends.{pool_end};
 ghost use Rattle.alma_pool.specs.Inner.{players_at_start, all_bytes, codes_of, shown_text};
 ghost use Rattle.alma_pool.specs.Pool.{after_turns};
@@ -112,7 +112,7 @@ fn play<I: Source, O: Sink>(
     requires good { bad_turn_behind (length verified.now) 0 turns.now ≡ None }
     requires short { length turns.now ≤ turns_limit }
     ensures { (files : FilesSide) → Follows plain program
-        (played_on (list_any code_reads (codes_of verified.now)) (codes_of verified.now)
+        (play_on_plan (list_any code_reads (codes_of verified.now)) (codes_of verified.now)
         (turns_in turns.now)) files files (I.side input.old) (I.side input.new) (O.side out.old)
         (O.side out.new) (pool_end result) }
 {

@@ -16,7 +16,6 @@ use crate::examples::run_examples;
 use alma_io::{Files, StdFiles};
 use anyhow::{Result, anyhow};
 use serde_json::Value;
-use std::alloc::Global;
 
 const NAMES: [&str; 14] = [
     "check.jsonl",

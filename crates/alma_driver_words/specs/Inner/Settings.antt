@@ -20,15 +20,15 @@ abbrev pub list_of : Option ℕ → List ℕ
 list_of None = []
 list_of (Some number) = number ∷ []
 
--- one where it is so
-abbrev pub count_of : Bool → ℕ
-count_of false = zero
-count_of true = suc zero
+-- 1 where it is so, and else 0
+abbrev pub one_if : Bool → ℕ
+one_if false = zero
+one_if true = suc zero
 
 -- these settings come to these options
 pub record Gathers (options : read_options.Options) (settings : List Setting) : Type 0 where
   pub steps : steps_named settings ≡ list_of options.steps
-  pub stats : stats_count settings ≡ count_of options.stats
+  pub stats : stats_count settings ≡ one_if options.stats
   pub watch : names_watched settings ≡ map (λ name. name.now) options.watch.items
 
 -- there is none of this sort yet, of which there is one at most
@@ -53,7 +53,7 @@ pub record AreOptions (stats watches : ℕ) (words : List (List ℕ)) : Type 0 w
 pub record AreGathered (allowance : Allowance) (words : List (List ℕ)) (options : read_options.Options) : Type 0 where
   pub settings : List Setting
   pub are : AreSettings words settings
-  pub allowed : Allows (count_of allowance.stats) allowance.watches settings
+  pub allowed : Allows (one_if allowance.stats) allowance.watches settings
   pub gathers : Gathers options settings
 
 -- the words before this one, from 0, are options of such a command, and with it they are not
@@ -66,5 +66,5 @@ pub record IsBadOption (stats watches : ℕ) (words : List (List ℕ)) (index : 
 abbrev pub ReadsOptions : Allowance → List (List ℕ) → Result read_options.Options WordsError → Type 0
 ReadsOptions allowance words (Ok options) = AreGathered allowance words options
 ReadsOptions allowance words (Err (Bad k)) = (index : ℕ) × (k ≡ index + 3)
-    × IsBadOption (count_of allowance.stats) allowance.watches words index
+    × IsBadOption (one_if allowance.stats) allowance.watches words index
 ReadsOptions allowance words (Err Memory) = Unit {0}
