@@ -88,9 +88,6 @@ module _ {A : Type 0} (same : A → A → Bool) (itself : (a : A) → same a a �
         sum_by-cons weight x z.after,
       )
 
-abbrev one_each : {A : Type 0} → A → ℕ
-one_each x = 1
-
 ones : {A : Type 0} (xs : List A) → sum_by (λ x. 1) xs ≡ length xs
 ones [] = refl
 ones (x ∷ xs) = omega (arith, sum_by-cons (λ y. 1) x xs, ones xs)
