@@ -7,12 +7,12 @@ use Rattle.alma_choice.specs.Emitted.{aim_jump}
 use Rattle.alma_lower_work.specs.Front.{Front, Holes}
 use Rattle.alma_lower_templates.specs.LineInstr.{own}
 
--- of a label of one number
+-- the test of a label of one number
 abbrev pub single_test : (value bound miss : ℕ) → (number : ℤ) → List Instr
 single_test value bound miss number =
     I.Const bound number ∷ I.Equal (bound + 1) bound value ∷ I.JumpZero (bound + 1) miss ∷ []
 
--- of a label that is a range
+-- the test of a label that is a range
 abbrev pub between_test : (value bound miss : ℕ) → Range → List Instr
 between_test value bound miss label =
     I.Const bound label.low ∷ I.LessEq (bound + 1) bound value ∷ I.JumpZero (bound + 1) miss
