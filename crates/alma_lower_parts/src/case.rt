@@ -5,7 +5,7 @@ ghost use Rattle.alma_ir.specs.View.{cases_list};
 ghost use Rattle.alma_lower_templates.specs.LineInstr.{own};
 ghost use Rattle.alma_lower_templates.specs.Pieces as pieces;
 ghost use Rattle.alma_lower_work.specs.Front.{front, Adds, Codes};
-ghost use Rattle.alma_lower_parts.specs.Labels.{PutsLabels, between_test, single_test};
+ghost use Rattle.alma_lower_parts.specs.Labels.{PutsLabels};
 ghost use Rattle.alma_lower_parts.specs.Steps.{EndsArm, EndsDead};
 
 use alma_base::{NoMemory, Range};
@@ -77,7 +77,7 @@ pub fn put_label_test(
 fn put_single(work: &mut Work, line: u32, labels: Labels, number: i64) -> Result<Miss, NoMemory>
     ensures { labels.test ≡ labels.bound + 1 → IfOk result (λ miss.
         PutsLabels (front work.old) (front work.new) line miss.low miss.high
-        (λ none at. single_test labels.value labels.bound none number)) }
+        (λ none at. pieces.single_test labels.value labels.bound none number)) }
 {
     let Labels { value, bound, test } = labels;
     work.put(
@@ -106,7 +106,7 @@ fn put_single(work: &mut Work, line: u32, labels: Labels, number: i64) -> Result
 fn put_between(work: &mut Work, line: u32, labels: Labels, label: Range) -> Result<Miss, NoMemory>
     ensures { labels.test ≡ labels.bound + 1 → IfOk result (λ miss.
         PutsLabels (front work.old) (front work.new) line miss.low miss.high
-        (λ none at. between_test labels.value labels.bound none label)) }
+        (λ none at. pieces.between_test labels.value labels.bound none label)) }
 {
     let Labels { value, bound, test } = labels;
     work.put(

@@ -253,14 +253,18 @@ for_turns line at by constant counter limit step first turn =
     own line (bounds_code by constant counter limit first (at + 3 + length turn + 2))
     ++ (turn ++ own line (I.Step counter limit step (at + 3 + length turn + 2) ∷ I.Jump (at + 3) ∷ []))
 
+-- what stands before the turns of SOME, at an address
+abbrev pub some_front : (at : ℕ) → (constant : Option ℤ) → (counter limit step first more : ℕ) → List Instr
+some_front at constant counter limit step first more =
+    count_from constant counter first ∷ I.LessEq first counter limit ∷ I.Check first ∷ I.Jump (at + 5)
+    ∷ I.Add counter counter step ∷ I.Less more counter limit ∷ I.JumpZero more (at + 8) ∷ I.Choose (at + 4) ∷ []
+
 -- the turns of SOME: each but the last has a choice entry, which goes on where the count is raised, before the next turn; a loop
 -- without turns fails
 abbrev pub some_turns : (line at : ℕ) → (constant : Option ℤ) → (counter limit step first more : ℕ) → (turn : List LineInstr)
     → List LineInstr
 some_turns line at constant counter limit step first more turn =
-    own line (count_from constant counter first ∷ I.LessEq first counter limit ∷ I.Check first ∷ I.Jump (at + 5)
-    ∷ I.Add counter counter step ∷ I.Less more counter limit ∷ I.JumpZero more (at + 8) ∷ I.Choose (at + 4) ∷ [])
-    ++ turn
+    own line (some_front at constant counter limit step first more) ++ turn
 
 -- ---- CASE
 
@@ -272,13 +276,20 @@ by_label label single between = if int_eq label.low label.high then single else 
 abbrev pub test_size : Range → ℕ
 test_size label = by_label label 3 6
 
+-- the test of a label of one number
+abbrev pub single_test : (value bound miss : ℕ) → (number : ℤ) → List Instr
+single_test value bound miss number =
+    I.Const bound number ∷ I.Equal (bound + 1) bound value ∷ I.JumpZero (bound + 1) miss ∷ []
+
+-- the test of a label that is a range
+abbrev pub between_test : (value bound miss : ℕ) → Range → List Instr
+between_test value bound miss label =
+    I.Const bound label.low ∷ I.LessEq (bound + 1) bound value ∷ I.JumpZero (bound + 1) miss
+    ∷ I.Const bound label.high ∷ I.LessEq (bound + 1) value bound ∷ I.JumpZero (bound + 1) miss ∷ []
+
 -- the test of a label: goes to `miss` where the number in the slot `value` is not in it, else on behind
 abbrev pub label_test : (value bound miss : ℕ) → Range → List Instr
-label_test value bound miss label =
-    by_label label
-    (I.Const bound label.low ∷ I.Equal (bound + 1) bound value ∷ I.JumpZero (bound + 1) miss ∷ [])
-    (I.Const bound label.low ∷ I.LessEq (bound + 1) bound value ∷ I.JumpZero (bound + 1) miss
-    ∷ I.Const bound label.high ∷ I.LessEq (bound + 1) value bound ∷ I.JumpZero (bound + 1) miss ∷ [])
+label_test value bound miss label = by_label label (single_test value bound miss label.low) (between_test value bound miss label)
 
 -- a label that is not the last of its arm: goes to `hit` where the number in the slot `value` lies in it, else on behind
 abbrev pub label_code : (value bound at hit : ℕ) → Range → List Instr
