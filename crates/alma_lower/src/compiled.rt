@@ -13,7 +13,7 @@ use alma_ir::Program;
 use alma_lower_tables::{gather, globals_of, instrs_of, lines_of};
 use std::alloc::Global;
 
-/// The code of a program. At a limit this is NoMemory.
+/// The code of a program. Past a limit this is NoMemory.
 pub fn compiled(alloc: Global, program: &Program) -> Result<Code, NoMemory>
     ensures code { IfOk result (λ code. IsCodeOf (program_of program.now) (code_of code)) }
     ensures runs { IfOk result (λ code. HasLongRuns (program_of program.now) (code_of code)) }

@@ -72,7 +72,7 @@ pub fn head_of(
     })
 }
 
-// The parameters of a routine, its link before the others. At the limit of records this is
+// The parameters of a routine, its link before the others. Past the limit of records this is
 // NoMemory.
 fn few_params(alloc: Global, routine: &Routine) -> Result<Vec<CodeParam>, NoMemory>
     ensures params { IfOk result (λ params. params.items ≡ compiled.link_params routine.now.level

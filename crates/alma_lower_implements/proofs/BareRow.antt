@@ -1,6 +1,6 @@
 -- A variable of the routine whose value is used at once: it has no code, and where it is unknown the instruction that reads
 -- it faults, at the line of the same statement.
-use Rattle.std.proofs.Common.{◌≡◌, ℕ, ◌+◌, List, [], ◌++◌, refl, ap, ◌∙◌, ℤ}
+use Rattle.std.proofs.Common.{◌≡◌, ℕ, List, refl, ap, ◌∙◌, ℤ}
 use Rattle.std.specs.Prelude.{slice_get}
 use Rattle.alma_base.specs.declared.fault.RunFault.TheVariants as fault
 use Rattle.alma_code.specs.declared.cell.Cell.TheVariants as cell
@@ -11,7 +11,6 @@ use Rattle.alma_code.specs.Machine.{State, StepResult, step, number, as_number}
 use Rattle.alma_ir.specs.declared.phrase.Root.TheVariants as root
 use Rattle.alma_ir.specs.Tree.{Program, Load, a_desig, no_sels}
 use Rattle.alma_mean.specs.Store.{Store, top_cell}
-use Rattle.alma_mean.specs.Store as store
 use Rattle.alma_mean.specs.Events.{Visit, Fail, one, join, visit_each}
 use Rattle.alma_mean.specs.Rows.{read_cell}
 use Rattle.alma_mean.specs.Meaning.{Level, ev_expr}

@@ -4,7 +4,6 @@ use Rattle.std.proofs.Common.{length-append}
 use Rattle.std.specs.Prelude.{slice_get}
 use Rattle.std.proofs.lemmas.List.{get_or_append_left, get_or-append-add}
 use Rattle.std.proofs.lemmas.Option.{slice_get-get_or, slice_get_within}
-use Rattle.alma_code.specs.declared.cell.Cell.TheVariants as cell
 use Rattle.alma_code.specs.declared.cell.SlotKind.{SlotKind}
 use Rattle.alma_code.specs.declared.cell.SlotKind.TheVariants as slot
 use Rattle.alma_code.specs.Picture.{PlainFrame, PlainEntry, last_frame}
@@ -14,7 +13,7 @@ use Rattle.alma_ir.specs.Tree.{Program, routine_at}
 use Rattle.alma_mean.specs.Store.{Store, top_frame}
 use Rattle.alma_mean.specs.Events.{Events, Flow}
 use Rattle.alma_lower_implements.proofs.Goes.{Silently, Goes, before}
-use Rattle.alma_lower_implements.proofs.Frames.{shift, own_end, StandFor, Fits, HasSlots, IsAt}
+use Rattle.alma_lower_implements.proofs.Frames.{shift, own_end, StandFor, Fits, HasSlots}
 use Rattle.alma_lower_implements.proofs.FrameLemmas.{top_same, fits_on}
 use Rattle.alma_lower_implements.proofs.Steps.{HasKind}
 
@@ -118,18 +117,9 @@ module _ (p : Program) (code : PlainCode) (input : List ℕ) where
 
 -- inside a statement with this line
 module _ (p : Program) (code : PlainCode) (input : List ℕ) (line : ℕ) where
-  -- from its start, in any state whose frames stand for the store
-  abbrev pub RunsFrom : {A : Type 0} → (at r : ℕ) → (leaves : Begun p code input → Store → Flow A → State → Type 0) → (Store → Events A)
-      → (q : ℕ) → Type 0
-  RunsFrom at r leaves f q = (v : Store) (now : List PlainFrame) (held : List PlainEntry) (s : State) → IsAt at now held s
-      → StandFor p code v now → (top_frame v).routine ≡ r
-      → Goes code input line 8 0 (leaves (begun p code input v now held)) held (f v) s 0 q
-
   -- one step more
   pub one_more : {A : Type 0} (left more : ℕ) (fits : Store → Flow A → State → Type 0) (base : List PlainEntry) (e : Events A) (s t : State)
       (r q : ℕ) → Silently code input 1 s t → Goes code input line left more fits base e t r q
       → Goes code input line left more fits base e s (suc r) q
   one_more left more fits base e s t r q a h =
       before code input line left more fits base e s t 1 (suc r) r q q a (omega arith) (omega arith) h
-  -- ---- constants
-  -- ---- LOAD

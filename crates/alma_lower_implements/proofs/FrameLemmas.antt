@@ -21,7 +21,7 @@ use Rattle.alma_mean.specs.Store.{Store, Place, Frame, Unknown, Number, At, with
 use Rattle.alma_mean.specs.Store as store
 use Rattle.alma_lower_implements.proofs.Frames.{shift, shift_in, own_end, SameContent, HasLink, SameFrame, StandFor, HeldPlace, KeptBelow}
 use Rattle.alma_lower_implements.proofs.Frames.{Fits, AreNumbers, SamePlace}
-use Rattle.alma_lower_implements.proofs.Steps.{top_written, Holds, HasKind}
+use Rattle.alma_lower_implements.proofs.Steps.{top_written, Holds}
 
 -- ---- the top frame after a write
 
@@ -52,10 +52,6 @@ holds_other now n m c x some other h =
     ∙ slice_get-get_or (set (last_frame now).cells n c) m cell.Unset longer
     ∙ ap Some (get_or-set_other (last_frame now).cells n m c cell.Unset other
     ∙ get_or_from_slice_get (last_frame now).cells m x cell.Unset h)
-
-pub kind_kept : (now : List PlainFrame) (n m : ℕ) (c : Cell) (k : SlotKind) → 1 ≤ length now → HasKind now m k
-    → HasKind (top_written now n c) m k
-kind_kept now n m c k some h = ap (λ f. slice_get f.kinds m) (top_is now n c some) ∙ h
 
 -- ---- a store after a write
 

@@ -178,8 +178,3 @@ module _ (p : Program) (code : PlainCode) (input : List ℕ) (line : ℕ) where
       let same : length now - 1 ≡ top v = ap (λ n. n - 1) stand.count in
       chain_goes links (at + 1) lo lo (top v) r v now later held s w.to 1 (omega arith) behind w.silently w.is fit routine up
       (subst (λ f. Holds later lo (cell.Place (link_to f))) same there) chains kinds
-
-  -- ---- places up the links
-
-  abbrev pub outer_place : (links from cells : ℕ) → Store → Place
-  outer_place links from cells v = record { frame = up v links; slot = from; size = cells }

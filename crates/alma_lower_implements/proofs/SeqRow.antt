@@ -1,8 +1,5 @@
 -- Lists of statements, NOT and OR; and parts whose way out is said in another word.
-use Rattle.std.proofs.Common.{ℕ, ◌+◌, ◌≤◌, List, refl, sym, subst, arith, ℤ, Option, ◌-◌}
-use Rattle.alma_code.specs.declared.cell.Cell.TheVariants as cell
-use Rattle.alma_code.specs.declared.cell.SlotKind.TheVariants as slot
-use Rattle.alma_code.specs.declared.instr.Instr.TheVariants as I
+use Rattle.std.proofs.Common.{ℕ, ◌≤◌, List, refl, sym, subst, arith, ℤ, Option}
 use Rattle.alma_code.specs.Picture.{PlainFrame, PlainEntry}
 use Rattle.alma_code.specs.Plain.{PlainCode}
 use Rattle.alma_code.specs.Machine.{State}

@@ -12,7 +12,11 @@ use Rattle.alma_mean.specs.Events as events
 use Rattle.alma_mean.specs.Events.{Events, Visit, Print, first, end_of, visit_count, CutOff}
 use Rattle.alma_mean.specs.Meaning.{ev_program, result}
 
--- the state of the machine after n steps from the start, and what these steps print
+-- how many steps of the machine a visit of the meaning pays for
+abbrev pub visit_steps : ℕ
+visit_steps = 32
+
+-- the state of the machine after n steps from the start
 abbrev pub state_after : PlainCode → (input : List ℕ) → ℕ → State
 state_after code input n = after code input n (start code)
 
@@ -49,9 +53,9 @@ pub record Covers {A : Type 0} (e : Events A) (printed : List ℕ) (least : ℕ)
 -- of a front of the meaning with one visit for each 32 steps.
 abbrev pub ComesTo : Mode → (line : ℕ) → (printed : List ℕ) → Program → (input : List ℕ) → (n : ℕ) → Type 0
 ComesTo (Ended e) line printed p input n = result (suc n) p input ≡ (printed, meant_end e line)
-ComesTo Going line printed p input n = Covers (first (ev_program (suc n) p input)) printed (n / 32)
-ComesTo Failing line printed p input n = Covers (first (ev_program (suc n) p input)) printed (n / 32)
-ComesTo Stuck line printed p input n = Covers (first (ev_program (suc n) p input)) printed (n / 32)
+ComesTo Going line printed p input n = Covers (first (ev_program (suc n) p input)) printed (n / visit_steps)
+ComesTo Failing line printed p input n = Covers (first (ev_program (suc n) p input)) printed (n / visit_steps)
+ComesTo Stuck line printed p input n = Covers (first (ev_program (suc n) p input)) printed (n / visit_steps)
 
 -- The code implements the program.
 abbrev pub Implements : PlainCode → Program → Type 0
@@ -72,4 +76,4 @@ abbrev pub IsEnough : PlainCode → Program → Type 0
 IsEnough code p =
     (input : List ℕ) → length input ≤ input_limit → (n : ℕ)
     → (end_of (first (ev_program n p input)) ≡ CutOff → ⊥)
-    → HasEnded (state_after code input (32 * (visit_count (first (ev_program n p input)) + 1))).mode
+    → HasEnded (state_after code input (visit_steps * (visit_count (first (ev_program n p input)) + 1))).mode

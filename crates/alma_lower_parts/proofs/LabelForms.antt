@@ -12,9 +12,8 @@ use Rattle.alma_lower_work.specs.Puts.{all_labels, behind_all}
 use Rattle.alma_lower_work.specs.Front.{Front, Codes, Changes, Holes}
 use Rattle.alma_lower_work.proofs.Joins.{code_code, adds_code, code_holes, holes_as, own_two, closed, only_code, address_after}
 use Rattle.alma_lower_work.proofs.Joins.{address_behind}
-use Rattle.alma_lower_parts.specs.Labels.{between_test, single_test}
 use Rattle.alma_lower_templates.specs.LineInstr.{LineInstr, own}
-use Rattle.alma_lower_templates.specs.Pieces.{label_test, test_size, label_code, labels_code}
+use Rattle.alma_lower_templates.specs.Pieces.{between_test, single_test, label_test, test_size, label_code, labels_code}
 
 -- a label in place of one that is not there
 unfoldable pub no_range : Range

@@ -17,13 +17,12 @@ use Rattle.alma_lower_work.specs.Front.{Around, Front, Adds, Codes, Takes, Chang
 use Rattle.alma_lower_work.specs.Puts.{PutsTarget, PutsStmts, PutsStmt, stand_of, set_instr, value_slot}
 use Rattle.alma_lower_work.proofs.Joins.{then_adds, adds_as, code_adds, adds_code, slot_adds, adds_slot, filled, address_behind}
 use Rattle.alma_lower_parts.specs.Loops.{PutsFirstCount, PutsLimit}
-use Rattle.alma_lower_parts.specs.Steps.{some_front}
 use Rattle.alma_lower_parts.proofs.TestForms.{located}
 use Rattle.alma_lower_parts.proofs.StmtForms.{set_is}
 use Rattle.alma_lower_parts.proofs.With.{constant_with}
 use Rattle.alma_lower_templates.specs.LineInstr.{LineInstr, own, in_row}
 use Rattle.alma_lower_templates.specs.Slots.{bare, bare_desig, unless_bare, constant, ends_alone, expr_slots, desig_slots, stmts_slots}
-use Rattle.alma_lower_templates.specs.Pieces.{unless_constant, limit_code, bounds_code, begin_loop, turn_code}
+use Rattle.alma_lower_templates.specs.Pieces.{unless_constant, limit_code, bounds_code, begin_loop, some_front, turn_code}
 use Rattle.alma_lower_templates.specs.Templates as T
 
 module _ (s : Around) (line : ℕ) where

@@ -2,7 +2,6 @@
 use Rattle.std.specs.Prelude.{◌≡◌, ℕ, ◌+◌, ℤ, List, [], ◌∷◌, length, drop, Option, Some, None}
 use Rattle.alma_code.specs.declared.cell.SlotKind.{SlotKind}
 use Rattle.alma_code.specs.declared.cell.SlotKind.TheVariants as slot
-use Rattle.alma_code.specs.declared.instr.Instr.{Instr}
 use Rattle.alma_code.specs.declared.instr.Instr.TheVariants as I
 use Rattle.alma_choice.specs.Emitted.{aim_jump}
 use Rattle.alma_ir.specs.declared.phrase.Root.{Root}
@@ -10,7 +9,7 @@ use Rattle.alma_ir.specs.Tree.{Args, Sels}
 use Rattle.alma_lower_work.specs.Front.{Around, Front, Adds, Codes, Takes, Changes, Holes, EndsEach, EndsForall}
 use Rattle.alma_lower_templates.specs.LineInstr.{LineInstr, own}
 use Rattle.alma_lower_templates.specs.Slots.{call_links, handed_slots, held_slots, root_slots, own_root, unless_bare}
-use Rattle.alma_lower_templates.specs.Pieces.{count_from, held_code, truth_code}
+use Rattle.alma_lower_templates.specs.Pieces.{held_code, some_front, truth_code}
 use Rattle.alma_lower_templates.specs.Templates as T
 
 -- ---- of any form
@@ -124,12 +123,6 @@ pub record EndsFor (line counter limit step jump top : ℕ) (a c : Front) : Type
   pub out_at : out ≡ length a.code + 2
   pub codes : Codes a b (own line (I.Step counter limit step out ∷ I.Jump top ∷ []))
   pub aims : Changes b c (λ xs. aim_jump xs jump (length b.code + 0))
-
--- what stands before the turns of SOME, at an address
-abbrev pub some_front : (at : ℕ) → (constant : Option ℤ) → (counter limit step first more : ℕ) → List Instr
-some_front at constant counter limit step first more =
-    count_from constant counter first ∷ I.LessEq first counter limit ∷ I.Check first ∷ I.Jump (at + 5)
-    ∷ I.Add counter counter step ∷ I.Less more counter limit ∷ I.JumpZero more (at + 8) ∷ I.Choose (at + 4) ∷ []
 
 -- a slot for whether there are more turns, and the front
 pub record BeginsSome (line : ℕ) (constant : Option ℤ) (counter limit step first : ℕ) (a c : Front) : Type 0 where

@@ -14,7 +14,7 @@ use alma_code::SlotKind;
 use alma_ir::{Arg, Desig, Sel};
 use alma_lower_work::{Scene, Work, put_links};
 
-// The link that is handed over to a routine of level 2 or more, and its slot.
+// The link that is handed over, where the called routine has one, and its slot.
 fn put_call_link(
     work: &mut Work,
     scene: &Scene<'_>,

@@ -1,12 +1,11 @@
 // The labels of the arms of CASE.
 ghost use Rattle.std.specs.Prelude.{◌≡◌, ◌+◌, ◌∷◌, [], IfOk, IsOk, OnOk, length};
 ghost use Rattle.alma_code.specs.declared.cell.SlotKind.TheVariants as slot;
-ghost use Rattle.alma_choice.specs.Emitted.{aim_jump};
 ghost use Rattle.alma_ir.specs.View.{cases_list};
 ghost use Rattle.alma_lower_templates.specs.LineInstr.{own};
 ghost use Rattle.alma_lower_templates.specs.Pieces as pieces;
-ghost use Rattle.alma_lower_work.specs.Front.{front, Adds, Codes, Holes};
-ghost use Rattle.alma_lower_parts.specs.Labels.{between_test, single_test};
+ghost use Rattle.alma_lower_work.specs.Front.{front, Adds, Codes};
+ghost use Rattle.alma_lower_parts.specs.Labels.{PutsLabels};
 ghost use Rattle.alma_lower_parts.specs.Steps.{EndsArm, EndsDead};
 
 use alma_base::{NoMemory, Range};
@@ -63,10 +62,9 @@ pub fn put_label_test(
     labels: Labels,
     label: Range,
 ) -> Result<Miss, NoMemory>
-    ensures { labels.test ≡ labels.bound + 1 → IfOk result (λ miss. Holes (front work.old)
-        (front work.new) (λ to xs. aim_jump (aim_jump xs miss.low to) miss.high to)
-        (λ none at lo ls. own line (pieces.label_test labels.value labels.bound none label))
-        (λ ls. []) (λ ls. ls)) }
+    ensures { labels.test ≡ labels.bound + 1 → IfOk result (λ miss.
+        PutsLabels (front work.old) (front work.new) line miss.low miss.high
+        (λ none at. pieces.label_test labels.value labels.bound none label)) }
 {
     if label.low == label.high {
         put_single(work, line, labels, label.low)
@@ -77,10 +75,9 @@ pub fn put_label_test(
 
 // The test of a label of one number.
 fn put_single(work: &mut Work, line: u32, labels: Labels, number: i64) -> Result<Miss, NoMemory>
-    ensures { labels.test ≡ labels.bound + 1 → IfOk result (λ miss. Holes (front work.old)
-        (front work.new) (λ to xs. aim_jump (aim_jump xs miss.low to) miss.high to)
-        (λ none at lo ls. own line (single_test labels.value labels.bound none number))
-        (λ ls. []) (λ ls. ls)) }
+    ensures { labels.test ≡ labels.bound + 1 → IfOk result (λ miss.
+        PutsLabels (front work.old) (front work.new) line miss.low miss.high
+        (λ none at. pieces.single_test labels.value labels.bound none number)) }
 {
     let Labels { value, bound, test } = labels;
     work.put(
@@ -107,10 +104,9 @@ fn put_single(work: &mut Work, line: u32, labels: Labels, number: i64) -> Result
 
 // The test of a label that is a range.
 fn put_between(work: &mut Work, line: u32, labels: Labels, label: Range) -> Result<Miss, NoMemory>
-    ensures { labels.test ≡ labels.bound + 1 → IfOk result (λ miss. Holes (front work.old)
-        (front work.new) (λ to xs. aim_jump (aim_jump xs miss.low to) miss.high to)
-        (λ none at lo ls. own line (between_test labels.value labels.bound none label))
-        (λ ls. []) (λ ls. ls)) }
+    ensures { labels.test ≡ labels.bound + 1 → IfOk result (λ miss.
+        PutsLabels (front work.old) (front work.new) line miss.low miss.high
+        (λ none at. pieces.between_test labels.value labels.bound none label)) }
 {
     let Labels { value, bound, test } = labels;
     work.put(

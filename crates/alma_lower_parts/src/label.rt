@@ -1,10 +1,9 @@
 // The labels of an arm of CASE.
-ghost use Rattle.std.specs.Prelude.{◌≡◌, ◌+◌, ◌<◌, ◌≤◌, [], length, IfOk};
-ghost use Rattle.alma_choice.specs.Emitted.{aim_jump};
-ghost use Rattle.alma_lower_templates.specs.LineInstr.{own};
+ghost use Rattle.std.specs.Prelude.{◌≡◌, ◌+◌, ◌<◌, ◌≤◌, length, IfOk};
 ghost use Rattle.alma_lower_templates.specs.Pieces as pieces;
-ghost use Rattle.alma_lower_work.specs.Front.{front, Holes};
+ghost use Rattle.alma_lower_work.specs.Front.{front};
 ghost use Rattle.alma_lower_work.specs.Puts.{all_labels, behind_all};
+ghost use Rattle.alma_lower_parts.specs.Labels.{PutsLabels};
 
 use crate::case::{Labels, Miss, put_label, put_label_test};
 use alma_base::{NoMemory, Range};
@@ -20,10 +19,9 @@ pub fn put_labels(
 ) -> Result<Miss, NoMemory>
     ensures some { IfOk result (λ miss. 0 < length ranges.now) }
     ensures holes { labels.test ≡ labels.bound + 1 → IfOk result (λ miss.
-        Holes (front work.old) (front work.new)
-        (λ to xs. aim_jump (aim_jump xs miss.low to) miss.high to)
-        (λ none at lo ls. own line (all_labels labels.value labels.bound at
-        (behind_all at ranges.now) none ranges.now)) (λ ls. []) (λ ls. ls)) }
+        PutsLabels (front work.old) (front work.new) line miss.low miss.high
+        (λ none at. all_labels labels.value labels.bound at (behind_all at ranges.now) none
+        ranges.now)) }
 {
     if ranges.is_empty() {
         return Err(NoMemory);

@@ -19,8 +19,7 @@ use Rattle.alma_code.specs.Machine.{State, StepResult, ends_in_fault, number, pl
 use Rattle.alma_code.specs.Machine.{integer_result}
 use Rattle.alma_code.specs.Machine.{as_range, range_check, optional_range_check, with_known_content}
 use Rattle.alma_code.proofs.Heads.{number_is}
-use Rattle.alma_code_laws.proofs.Ready.{mark_is}
-use Rattle.alma_code_laws.proofs.Acts.{number_word, place_word, mark_word}
+use Rattle.alma_code_laws.proofs.Acts.{number_word, place_word}
 use Rattle.alma_code_laws.proofs.Links.{link_word}
 use Rattle.alma_lower_slots.specs.Slots.{target_slot}
 use Rattle.alma_lower_slots.specs.Sharing.{Sharing, matters}
@@ -57,10 +56,6 @@ number_there code r n e = slice_get_within (kinds_at code r) n slot.Number (numb
 -- a place slot
 pub place_there : (code : PlainCode) (r n : ℕ) → names_slot code r (W.Place n) ≡ true → n < length (kinds_at code r)
 place_there code r n e = slice_get_within (kinds_at code r) n (slot.Place (length_in code r n)) (place_word code r n e).1
-
--- a mark slot
-pub mark_there : (code : PlainCode) (r n : ℕ) → names_slot code r (W.Mark n) ≡ true → n < length (kinds_at code r)
-mark_there code r n e = slice_get_within (kinds_at code r) n slot.Mark (mark_is (kind_in code r n) (mark_word code r n e).1)
 
 -- a link slot
 pub link_there : (code : PlainCode) (r n : ℕ) → names_slot code r (W.Link n) ≡ true → n < length (kinds_at code r)

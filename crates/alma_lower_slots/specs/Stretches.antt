@@ -9,7 +9,7 @@ use Rattle.alma_lower_slots.specs.Sharing.{Sharing, SharesIn, SharesAt}
 abbrev pub no_end : ℕ
 no_end = 4294967295
 
--- that of a slot that is kept and keeps its number
+-- the stretch of a slot that is kept and keeps its number
 abbrev pub own_stretch : ℕ → Stretch
 own_stretch n = record { slot = n; low = 0; high = no_end }
 
@@ -17,11 +17,11 @@ own_stretch n = record { slot = n; low = 0; high = no_end }
 abbrev pub stretch_at : List Stretch → (n : ℕ) → Stretch
 stretch_at stretches n = get_or stretches n (own_stretch n)
 
--- it has none
+-- whether a slot with this stretch is kept: it has no end
 abbrev pub is_kept : Stretch → Bool
 is_kept x = nat_eq x.high no_end
 
--- it is not kept, and the address is in it
+-- whether a slot with this stretch is not kept, and is live at the address: it lies behind `low`, up to `high`
 abbrev pub is_live : Stretch → (at : ℕ) → Bool
 is_live x at = not (is_kept x) && (nat_lt x.low at && nat_le at x.high)
 

@@ -1,15 +1,15 @@
 -- Tables that hold what a program names, each once, have few entries, and ranges in order.
 use Rattle.std.proofs.Common.{◌≡◌, inl, inr, ℕ, zero, suc, ◌+◌, ◌*◌, ◌<◌, ◌≤◌, Bool, true, false, List, [], ◌∷◌, ◌++◌, length, get_or}
 use Rattle.std.proofs.Common.{Option, Some, None, ℤ, pos, negsuc, refl, sym, ap, ◌∙◌, subst, arith}
-use Rattle.std.specs.Prelude.{sum_by, nat_eq, ◌≤ℤ◌, int_le}
+use Rattle.std.specs.Prelude.{sum_by, ◌≤ℤ◌, int_le}
 use Rattle.std.specs.List.{AllByRecursion, Contains, IsDistinct, list_all}
-use Rattle.std.proofs.lemmas.Bool.{and_from, eq-eqb}
+use Rattle.std.proofs.lemmas.Bool.{and_from}
 use Rattle.std.proofs.lemmas.List.{length-append}
 use Rattle.std.proofs.lemmas.List.Sums.{sum_by-cons, sum_by-append, sum_by-le-sum_by}
 use Rattle.std.proofs.lemmas.List.Elements.{Contains-append_left, Contains-append_right, Contains-append_cases}
 use Rattle.std.proofs.lemmas.Int.{ints}
 use Rattle.std.proofs.lemmas.Map.Keys.{IsDistinct-head, IsDistinct-tail}
-use Rattle.alma_base.specs.Numbers.{char_range, int_eq}
+use Rattle.alma_base.specs.Numbers.{char_range}
 use Rattle.alma_base.specs.declared.number.Range.{Range}
 use Rattle.alma_code.specs.Plain.{PlainCode}
 use Rattle.alma_code.specs.Records.{text_byte_count}
@@ -30,6 +30,7 @@ use Rattle.alma_ir.specs.Count.{desig_nodes, sels_nodes, sel_nodes}
 use Rattle.alma_ir.specs.Checked.{IsChecked, IsOrdered, labels_of, ranges_of, text_bytes}
 use Rattle.alma_ir.proofs.Each.{each_of_append}
 use Rattle.alma_lower_templates.specs.Tables.{same_range, same_text}
+use Rattle.alma_lower_templates.proofs.Exists.{range_itself, text_itself}
 use Rattle.alma_lower_sound.specs.Entries.{HoldsEachOnce, of_each, program_phrases, program_ranges, program_texts, result_range, texts_of}
 
 -- ---- entries of a table
@@ -88,9 +89,6 @@ module _ {A : Type 0} (same : A → A → Bool) (itself : (a : A) → same a a �
         sum_by-cons weight x z.after,
       )
 
-abbrev one_each : {A : Type 0} → A → ℕ
-one_each x = 1
-
 ones : {A : Type 0} (xs : List A) → sum_by (λ x. 1) xs ≡ length xs
 ones [] = refl
 ones (x ∷ xs) = omega (arith, sum_by-cons (λ y. 1) x xs, ones xs)
@@ -104,17 +102,6 @@ sum_of_each weight f (x ∷ xs) = omega (
   sum_by-cons (λ y. sum_by weight (f y)) x xs,
   sum_of_each weight f xs,
 )
-
-number_itself : (a : ℤ) → int_eq a a ≡ true
-number_itself (pos a) = eq-eqb a a refl
-number_itself (negsuc a) = eq-eqb a a refl
-
-pub range_itself : (a : Range) → same_range a a ≡ true
-range_itself a = and_from (int_eq a.low a.low) (int_eq a.high a.high) (number_itself a.low) (number_itself a.high)
-
-pub text_itself : (a : List ℕ) → same_text a a ≡ true
-text_itself [] = refl
-text_itself (a ∷ more) = and_from (nat_eq a a) (same_text more more) (eq-eqb a a refl) (text_itself more)
 
 -- ---- what phrases name, by nodes
 

@@ -1,12 +1,11 @@
 -- Each program has a code whose runs are the longest and whose tables hold each entry once.
-use Rattle.std.proofs.Common.{◌≡◌, ℕ, zero, suc, ◌+◌, ◌-◌, ◌<◌, Bool, true, false, List, [], ◌∷◌, ◌++◌, length, get_or, replicate, Some, ℤ}
-use Rattle.std.proofs.Common.{pos, negsuc, refl, sym, ap, ◌∙◌, subst, arith}
-use Rattle.std.specs.Prelude.{slice_get, nat_eq, ◌||◌}
+use Rattle.std.proofs.Common.{◌≡◌, ℕ, zero, suc, ◌+◌, ◌-◌, ◌<◌, Bool, true, false, List, [], ◌∷◌, ◌++◌, length, get_or, replicate, Some}
+use Rattle.std.proofs.Common.{refl, sym, ap, ◌∙◌, subst, arith}
+use Rattle.std.specs.Prelude.{slice_get, ◌||◌}
 use Rattle.std.specs.List.{AllByRecursion, Contains, IsDistinct, list_any}
-use Rattle.std.proofs.lemmas.Bool.{and_parts, eqb-true}
 use Rattle.std.proofs.lemmas.List.Elements.{Contains-append_left, Contains-append_right}
 use Rattle.std.proofs.lemmas.Map.Keys.{IsDistinct-cons}
-use Rattle.alma_base.specs.Numbers.{char_range, int_eq}
+use Rattle.alma_base.specs.Numbers.{char_range}
 use Rattle.alma_base.specs.declared.number.Range.{Range}
 use Rattle.alma_code.specs.declared.cell.SlotKind.{SlotKind}
 use Rattle.alma_code.specs.declared.head.Run.{Run}
@@ -25,7 +24,7 @@ use Rattle.alma_lower_templates.specs.CodeOf.{HoldsRange, InTables, HoldsAllOf, 
 use Rattle.alma_lower_sound.specs.Entries.{AreSome, HoldsEachOnce, of_each, program_phrases, program_ranges, program_texts, result_range}
 use Rattle.alma_lower_sound.specs.Entries.{texts_of}
 use Rattle.alma_lower_sound.specs.Runs.{HasLongRuns}
-use Rattle.alma_lower_sound.proofs.Entries.{range_itself, text_itself}
+use Rattle.alma_lower_templates.proofs.Exists.{range_is, range_itself, text_is, text_itself}
 use Rattle.alma_lower_sound.proofs.Runs.{kind_itself, kind_is}
 use Rattle.alma_lower_sound.proofs.Whole.{long_runs}
 
@@ -200,27 +199,6 @@ module _ {A : Type 0} (same : A → A → Bool) (is : (a b : A) → same a b ≡
   held_once xs a h = let there = once_all xs a h in place_of (once xs) there.0 a there.1 there.2
 
 -- ---- ranges and texts
-
-same_number : (a b : ℤ) → int_eq a b ≡ true → a ≡ b
-same_number (pos a) (pos b) e = ap pos (eqb-true a b e)
-same_number (negsuc a) (negsuc b) e = ap negsuc (eqb-true a b e)
-same_number (pos a) (negsuc b) e = absurd (let bad : false ≡ true = e in cc)
-same_number (negsuc a) (pos b) e = absurd (let bad : false ≡ true = e in cc)
-
-range_is : (a b : Range) → same_range a b ≡ true → a ≡ b
-range_is a b e =
-    let z = and_parts (int_eq a.low b.low) (int_eq a.high b.high) e in
-    let low : a.low ≡ b.low = same_number a.low b.low z.0 in
-    let high : a.high ≡ b.high = same_number a.high b.high z.1 in
-    ap (λ n. record { low = n; high = a.high }) low ∙ ap (λ n. record { low = b.low; high = n }) high
-
-text_is : (a b : List ℕ) → same_text a b ≡ true → a ≡ b
-text_is [] [] e = refl
-text_is [] (b ∷ bs) e = absurd (let bad : false ≡ true = e in cc)
-text_is (a ∷ more) [] e = absurd (let bad : false ≡ true = e in cc)
-text_is (a ∷ more) (b ∷ bs) e =
-    let z = and_parts (nat_eq a b) (same_text more bs) e in
-    ap (λ n. n ∷ more) (eqb-true a b z.0) ∙ ap (λ l. b ∷ l) (text_is more bs z.1)
 
 in_tables : (tables : Tables) (x : Phrase) → HoldsRange tables char_range
     → ((range : Range) → Contains (ranges_of x) range → HoldsRange tables range)

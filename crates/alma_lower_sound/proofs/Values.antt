@@ -49,10 +49,6 @@ use Rattle.alma_lower_sound.proofs.Needs.{HasKind, Needs, IsRange, Number, Place
 use Rattle.alma_lower_sound.proofs.Roots.{Compiled, Slots, front, back, free, first_slot, variable, link_needs, held}
 use Rattle.alma_lower_templates.proofs.OwnPlace.{own_root_is}
 
-is_some : {A : Type 0} (o : Option A) → IsSome o → (a : A) × (o ≡ Some a)
-is_some None h = absurd (cc)
-is_some (Some a) h = (a, refl)
-
 first_is : (all first : ℕ) → 0 < all → first_argument all first ≡ first
 first_is zero first h = absurd (omega (arith, h))
 first_is (suc n) first h = refl

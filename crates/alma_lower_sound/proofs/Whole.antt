@@ -14,22 +14,9 @@ use Rattle.alma_lower_templates.specs.Templates.{routine_code}
 use Rattle.alma_lower_templates.specs.Compiled.{head_for, routines_code, routines_named}
 use Rattle.alma_lower_templates.specs.CodeOf.{IsCodeOf}
 use Rattle.alma_lower_templates.proofs.Premises.{kinds_are, variables_are, params_are}
+use Rattle.alma_lower_templates.proofs.Whole.{start_in, start_behind, start_is}
 use Rattle.alma_lower_sound.specs.Runs.{HasLongRuns}
 use Rattle.alma_lower_sound.proofs.Roots.{Compiled}
-
--- the address of the first instruction of a routine of these, of which the first begins at an address
-abbrev start_in : (at : ℕ) → List PlainRoutine → (k : ℕ) → ℕ
-start_in at named zero = at
-start_in at named (suc before) = (get_or named before plain.no_routine).code_end
-
-start_behind : (at : ℕ) (x : PlainRoutine) (named : List PlainRoutine) (k : ℕ)
-    → start_in at (x ∷ named) (suc k) ≡ start_in x.code_end named k
-start_behind at x named zero = refl
-start_behind at x named (suc k) = refl
-
-start_is : (code : PlainCode) (r : ℕ) → start_at code r ≡ start_in 0 code.routines r
-start_is code zero = refl
-start_is code (suc r) = refl
 
 module _ (p : Program) (tables : Tables) where
   pub named_long : (all : List (List Run)) (r at : ℕ) → length (routines_named p tables r at all) ≡ length all

@@ -5,7 +5,7 @@ use Rattle.alma_ir.specs.Tree.{Program, Read}
 use Rattle.alma_ir.specs.Phrases.{Phrase, StmtPhrase}
 use Rattle.alma_lower_sound.specs.Entries.{program_phrases}
 
--- a READ
+-- whether a phrase is a READ
 abbrev pub is_read_phrase : Phrase → Bool
 is_read_phrase (StmtPhrase (Read d how range)) = true
 is_read_phrase _ = false

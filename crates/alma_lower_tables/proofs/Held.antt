@@ -15,7 +15,7 @@ use Rattle.alma_ir.specs.Phrases.{Phrase, StmtPhrase, TestPhrase, ExprPhrase, Ar
 use Rattle.alma_ir.specs.Checked.{ranges_of}
 use Rattle.alma_ir.proofs.Each.{each_of_append}
 use Rattle.alma_lower_sound.specs.Entries.{AreSome, of_each, program_phrases, program_ranges, program_texts, result_range, texts_of}
-use Rattle.alma_lower_sound.proofs.Entries.{range_itself, text_itself}
+use Rattle.alma_lower_templates.proofs.Exists.{range_itself, text_itself}
 use Rattle.alma_lower_tables.proofs.Places.{range_is, text_is}
 use Rattle.alma_lower_templates.specs.CodeOf.{HoldsRange, InTables, HoldsAllOf, HasIntegers, IsOfIntegers}
 use Rattle.alma_lower_templates.specs.Tables.{Tables, same_range, same_text, is_whole, first_place}

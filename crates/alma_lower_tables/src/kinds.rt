@@ -11,6 +11,9 @@ use alma_code::{Run, SlotKind};
 use alma_ir::{ArgKind, Param, Routine};
 use std::alloc::Global;
 
+/// The level from which a routine has a link to the frame of the routine round it.
+pub const LINK_LEVEL: u32 = 2;
+
 // Whether two kinds are equal.
 fn is_same(kind: SlotKind, other: SlotKind) -> bool
     ensures same { result ≡ true → kind ≡ other }
@@ -59,7 +62,7 @@ pub fn own_kinds(alloc: Global, routine: &Routine) -> Result<Vec<SlotKind>, NoMe
     with_link(alloc, routine, &kinds)
 }
 
-// These kinds behind the link of a routine of level 2 or more.
+// These kinds behind the link of a routine, where it has one.
 fn with_link(
     alloc: Global,
     routine: &Routine,
@@ -69,7 +72,7 @@ fn with_link(
         ++ kinds.now) }
 {
     let mut all = Vec::new(alloc);
-    if routine.level >= 2 {
+    if routine.level >= LINK_LEVEL {
         all.push(SlotKind::Link(routine.outer))?;
     }
     all.extend_from_slice(kinds)?;

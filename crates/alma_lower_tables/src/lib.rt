@@ -10,7 +10,7 @@ mod tables;
 mod walk;
 
 pub use entry::is_whole;
-pub use kinds::{own_kinds, runs_of};
+pub use kinds::{LINK_LEVEL, own_kinds, runs_of};
 pub use numbers::Numbers;
 pub use program::gather;
 pub use tables::{globals_of, instrs_of, lines_of, params_of};

@@ -27,7 +27,7 @@ impl Numbers {
         }
     }
 
-    /// The number of a range. At the limit of ranges this is NoMemory.
+    /// The number of a range. Past the limit of records this is NoMemory.
     pub fn range_number(&self, range: Range) -> Result<u32, NoMemory>
         ensures number { IfOk result (λ n. n ≡ range_number (tables_of self.now) range) }
     {
@@ -38,7 +38,7 @@ impl Numbers {
         }
     }
 
-    /// The number of a text. At the limit of texts this is NoMemory.
+    /// The number of a text. Past the limit of records this is NoMemory.
     pub fn text_number(&self, text: &[u8]) -> Result<u32, NoMemory>
         ensures number { IfOk result (λ n. n ≡ text_number (tables_of self.now) text.now) }
     {

@@ -7,6 +7,7 @@ ghost use Rattle.alma_ir.specs.View as view;
 ghost use Rattle.alma_lower_templates.specs.Compiled as compiled;
 ghost use Rattle.alma_lower_templates.specs.LineInstr as lines;
 
+use crate::kinds::LINK_LEVEL;
 use alma_base::NoMemory;
 use alma_code::{CodeGlobal, CodeParam, Instr, Line, ParamKind};
 use alma_ir::{ArgKind, Param, Routine};
@@ -45,7 +46,7 @@ pub fn params_of(alloc: Global, routine: &Routine) -> Result<Vec<CodeParam>, NoM
 {
     let named = named_params(alloc, &routine.params)?;
     let mut params = Vec::new(alloc);
-    if routine.level >= 2 {
+    if routine.level >= LINK_LEVEL {
         params.push(CodeParam {
             kind: ParamKind::Link,
             cells: routine.outer,

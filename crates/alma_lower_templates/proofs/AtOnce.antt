@@ -45,6 +45,7 @@ module _ (p : Program) (tables : Tables) (code : PlainCode) (input : List ℕ) (
         (bind (Visit (Visit (Visit (visit_each (join (read_cell (top_cell v from) (λ n. one v n)) Fail))))) k) q
     bare_from from variable there reads later = by (slot_there p code input r from variable v now b.stand b.routine)
       where
+        -- a number comes behind four visits, which pay for 128 steps; a fault behind three, which pay for 96
         by : SlotThere p code input v now from (shift p r + from)
             → From p code input line 0 at exit now (w now)
             (bind (Visit (Visit (Visit (visit_each (join (read_cell (top_cell v from) (λ n. one v n)) Fail))))) k) q

@@ -79,17 +79,17 @@ number_itself : (a : ℤ) → int_eq a a ≡ true
 number_itself (pos a) = eq-eqb a a refl
 number_itself (negsuc a) = eq-eqb a a refl
 
-range_is : (a b : Range) → same_range a b ≡ true → a ≡ b
+pub range_is : (a b : Range) → same_range a b ≡ true → a ≡ b
 range_is a b e =
     let z = and_parts (int_eq a.low b.low) (int_eq a.high b.high) e in
     let low : a.low ≡ b.low = same_number a.low b.low z.0 in
     let high : a.high ≡ b.high = same_number a.high b.high z.1 in
     ap (λ n. record { low = n; high = a.high }) low ∙ ap (λ n. record { low = b.low; high = n }) high
 
-range_itself : (a : Range) → same_range a a ≡ true
+pub range_itself : (a : Range) → same_range a a ≡ true
 range_itself a = and_from (int_eq a.low a.low) (int_eq a.high a.high) (number_itself a.low) (number_itself a.high)
 
-text_is : (a b : List ℕ) → same_text a b ≡ true → a ≡ b
+pub text_is : (a b : List ℕ) → same_text a b ≡ true → a ≡ b
 text_is [] [] e = refl
 text_is [] (b ∷ bs) e = absurd (let bad : false ≡ true = e in cc)
 text_is (a ∷ more) [] e = absurd (let bad : false ≡ true = e in cc)
@@ -97,7 +97,7 @@ text_is (a ∷ more) (b ∷ bs) e =
     let z = and_parts (nat_eq a b) (same_text more bs) e in
     ap (λ n. n ∷ more) (eqb-true a b z.0) ∙ ap (λ l. b ∷ l) (text_is more bs z.1)
 
-text_itself : (a : List ℕ) → same_text a a ≡ true
+pub text_itself : (a : List ℕ) → same_text a a ≡ true
 text_itself [] = refl
 text_itself (a ∷ more) = and_from (nat_eq a a) (same_text more more) (eq-eqb a a refl) (text_itself more)
 

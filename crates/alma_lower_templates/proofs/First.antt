@@ -138,6 +138,7 @@ module _ (p : Program) (tables : Tables) (code : PlainCode) (input : List ℕ) (
       (λ size. subst (λ e. From p code input line 0 at exit now w (bind e k) q) (sym (bare_is code input p below from size v))
       (by (slot_there p code input r from variables v now b.stand b.routine)))
     where
+      -- a number comes behind four visits, which pay for 128 steps; a fault behind three, which pay for 96
       by : SlotThere p code input v now from (shift p r + from)
           → From p code input line 0 at exit now w
           (bind (Visit (Visit (Visit (visit_each (join (read_cell (top_cell v from) (λ n. one v n)) Fail))))) k) q

@@ -33,10 +33,6 @@ module _ (code : PlainCode) (input : List ℕ) (line at : ℕ) (now : List Plain
         record { mode = h.mode; here = ap (λ n. n + 1) h.here; frames = h.frames; entries = h.entries };
   }
 
-  pub range_is : (n : ℕ) (range : Range) (k : Range → StepResult) → slice_get code.ranges n ≡ Some range
-      → as_range (slice_get code.ranges n) here k ≡ k range
-  range_is n range k e = ap (λ o. as_range o here k) e
-
   -- ---- a number is in a range
 
   pub in_range_reads : (a n : ℕ) (range : Range) → InstrAt code input line at (I.InRange a n) → slice_get code.ranges n ≡ Some range

@@ -15,16 +15,16 @@ use Rattle.alma_lower_templates.proofs.Stands.{stands_front, stands_back, stands
 use Rattle.alma_lower_templates.proofs.NewFrame.{IsCompiled}
 
 -- the address of the first instruction of a routine of these, of which the first begins at an address
-abbrev start_in : (at : ℕ) → List PlainRoutine → (k : ℕ) → ℕ
+abbrev pub start_in : (at : ℕ) → List PlainRoutine → (k : ℕ) → ℕ
 start_in at named zero = at
 start_in at named (suc before) = (get_or named before plain.no_routine).code_end
 
-start_behind : (at : ℕ) (x : PlainRoutine) (named : List PlainRoutine) (k : ℕ)
+pub start_behind : (at : ℕ) (x : PlainRoutine) (named : List PlainRoutine) (k : ℕ)
     → start_in at (x ∷ named) (suc k) ≡ start_in x.code_end named k
 start_behind at x named zero = refl
 start_behind at x named (suc k) = refl
 
-start_is : (code : PlainCode) (r : ℕ) → start_at code r ≡ start_in 0 code.routines r
+pub start_is : (code : PlainCode) (r : ℕ) → start_at code r ≡ start_in 0 code.routines r
 start_is code zero = refl
 start_is code (suc r) = refl
 

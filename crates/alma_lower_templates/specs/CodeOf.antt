@@ -15,6 +15,7 @@ use Rattle.alma_lower_templates.specs.Compiled.{program_code}
 
 -- ---- the tables
 
+-- the range stands in the table at its number
 abbrev pub HoldsRange : Tables → Range → Type 0
 HoldsRange tables range = slice_get tables.ranges (range_number tables range) ≡ Some range
 

@@ -19,12 +19,14 @@ use Rattle.alma_lower_templates.specs.Templates.{routine_code}
 
 -- ---- heads
 
+-- the kind of a parameter, as a code names it
 abbrev pub param_kind : ArgKind → ParamKind
 param_kind kind.Value = param.Value
 param_kind kind.Place = param.Place
 param_kind kind.Mix = param.Mix
 param_kind kind.Cells = param.Cells
 
+-- a parameter, as a code names it
 abbrev pub param_named : Param → CodeParam
 param_named q = record { kind = param_kind q.kind; cells = q.cells }
 
@@ -34,10 +36,12 @@ link_params zero outer = []
 link_params (suc zero) outer = []
 link_params (suc (suc above)) outer = record { kind = param.Link; cells = outer } ∷ []
 
+-- a routine that has the range of a result is a function
 abbrev pub is_function : Option Range → Bool
 is_function (Some range) = true
 is_function None = false
 
+-- the head of a routine, whose slots these runs name
 abbrev pub head_for : Program → (r : ℕ) → List Run → PlainHead
 head_for p r runs = record {
   slots = length (routine_kinds p r);

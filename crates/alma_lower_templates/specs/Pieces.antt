@@ -20,6 +20,7 @@ use Rattle.alma_lower_templates.specs.Tables.{Tables, range_number, is_whole}
 
 -- ---- numbers
 
+-- an operator on two numbers, whose result goes into the slot `to`
 abbrev pub op_code : Op → (to first operand : ℕ) → Instr
 op_code op.Add to first operand = I.Add to first operand
 op_code op.Sub to first operand = I.Sub to first operand
@@ -77,26 +78,31 @@ with_last change [] = []
 with_last change (x ∷ []) = record { line = x.line; instr = change x.instr } ∷ []
 with_last change (x ∷ (y ∷ rest)) = x ∷ with_last change (y ∷ rest)
 
--- code whose last instruction puts its number into another slot, and its place
+-- code whose last instruction puts its number into another slot
 abbrev pub straight : (to : ℕ) → List LineInstr → List LineInstr
 straight to code = with_last (aim to) code
 
+-- code whose last instruction puts its place into another slot
 abbrev pub place_code : (to : ℕ) → List LineInstr → List LineInstr
 place_code to code = with_last (aim_place to) code
 
+-- the change of a sign, where there is one to change
 abbrev pub neg_code : Bool → (to from : ℕ) → List Instr
 neg_code true to from = I.Neg to from ∷ []
 neg_code false to from = []
 
+-- the number in a slot is written in one of three forms
 abbrev pub write_code : WriteAs → (from : ℕ) → Instr
 write_code write_as.Int from = I.WriteInt from
 write_code write_as.Bool from = I.WriteBool from
 write_code write_as.Char from = I.WriteChar from
 
+-- a value in one of two forms, of the range of this number, is read into the variable at a place
 abbrev pub read_code : ReadAs → (place range : ℕ) → Instr
 read_code read_as.Int place range = I.ReadInt place range
 read_code read_as.Char place range = I.ReadChar place range
 
+-- a check, or nothing where the range is whole
 abbrev pub unless_whole : Bool → List Instr → List Instr
 unless_whole true check = []
 unless_whole false check = check
@@ -140,6 +146,7 @@ condition false line at lo none jump test = begin_first line lo none ++ (test (a
 abbrev pub guarded_by : (at behind skipped : ℕ) → (condition : (none : ℕ) → List LineInstr) → (body : List LineInstr) → List LineInstr
 guarded_by at behind skipped condition body = condition (behind + length body + skipped) ++ body
 
+-- the same at an address, where the body is given the address at which it stands
 abbrev pub guard_code : (at skipped : ℕ) → (condition : (none : ℕ) → List LineInstr) → (body : (at : ℕ) → List LineInstr) → List LineInstr
 guard_code at skipped condition body =
     guarded_by at (at + length (condition 0)) skipped condition (body (at + length (condition 0)))
@@ -162,6 +169,7 @@ truth_code line to at = own line (I.Const to (pos 1) ∷ I.Jump (at + 3) ∷ I.C
 
 -- ---- FORALL
 
+-- the front of FORALL: where no alternative is left the code goes on at `out`
 abbrev pub begin_forall : (line mark out : ℕ) → List LineInstr
 begin_forall line mark out = own line (I.Forall mark out ∷ [])
 
@@ -169,17 +177,20 @@ begin_forall line mark out = own line (I.Forall mark out ∷ [])
 abbrev pub begin_each : (line mark inner next : ℕ) → List LineInstr
 begin_each line mark inner next = own line (I.Overlay mark next ∷ I.Mark inner ∷ [])
 
+-- behind a body: its other alternatives are cut, what it changed is kept, and it fails
 abbrev pub end_each : (line mark inner : ℕ) → List LineInstr
 end_each line mark inner = own line (I.Cut inner ∷ I.Keep mark ∷ I.Fail ∷ [])
 
+-- the end of FORALL, when all alternatives of the first part are done
 abbrev pub end_forall : (line : ℕ) → List LineInstr
 end_forall line = own line (I.Finish ∷ [])
 
--- both parts: a body stands behind `begin_each`; when it is done or fails, the `Fail` of `end_each` goes on to the next
--- alternative, and with none left the `Finish` follows
+-- the second part of FORALL, whose body stands at `at`, behind `begin_each`; when it is done or fails, the `Fail` of `end_each`
+-- goes on to the next alternative of the first part
 abbrev pub each_body : (line at mark inner : ℕ) → (body : List LineInstr) → List LineInstr
 each_body line at mark inner body = begin_each line mark inner (at + length body + 2) ++ (body ++ end_each line mark inner)
 
+-- FORALL round both parts, which stand at `at`; with no alternative left the `Finish` follows
 abbrev pub forall_code : (line at mark : ℕ) → (parts : List LineInstr) → List LineInstr
 forall_code line at mark parts = begin_forall line mark (at + length parts) ++ (parts ++ end_forall line)
 
@@ -190,11 +201,12 @@ abbrev pub turned_loop : (line at : ℕ) → (body : List LineInstr) → (condit
 turned_loop line at body condition =
     own line (I.Jump (at + 1 + length body) ∷ []) ++ (body ++ condition (at + 1 + length body))
 
--- a constant that is put before a loop, and the slot of an operand that may be one
+-- a constant that is put into a slot before a loop, where there is one
 abbrev pub held_code : (constant : Option ℤ) → (to : ℕ) → List Instr
 held_code (Some n) to = I.Const to n ∷ []
 held_code None to = []
 
+-- the slot of an operand: `held` where it is such a constant, else the other
 abbrev pub held_or : (constant : Option ℤ) → (held other : ℕ) → ℕ
 held_or (Some n) held other = held
 held_or None held other = other
@@ -241,14 +253,18 @@ for_turns line at by constant counter limit step first turn =
     own line (bounds_code by constant counter limit first (at + 3 + length turn + 2))
     ++ (turn ++ own line (I.Step counter limit step (at + 3 + length turn + 2) ∷ I.Jump (at + 3) ∷ []))
 
+-- what stands before the turns of SOME, at an address
+abbrev pub some_front : (at : ℕ) → (constant : Option ℤ) → (counter limit step first more : ℕ) → List Instr
+some_front at constant counter limit step first more =
+    count_from constant counter first ∷ I.LessEq first counter limit ∷ I.Check first ∷ I.Jump (at + 5)
+    ∷ I.Add counter counter step ∷ I.Less more counter limit ∷ I.JumpZero more (at + 8) ∷ I.Choose (at + 4) ∷ []
+
 -- the turns of SOME: each but the last has a choice entry, which goes on where the count is raised, before the next turn; a loop
 -- without turns fails
 abbrev pub some_turns : (line at : ℕ) → (constant : Option ℤ) → (counter limit step first more : ℕ) → (turn : List LineInstr)
     → List LineInstr
 some_turns line at constant counter limit step first more turn =
-    own line (count_from constant counter first ∷ I.LessEq first counter limit ∷ I.Check first ∷ I.Jump (at + 5)
-    ∷ I.Add counter counter step ∷ I.Less more counter limit ∷ I.JumpZero more (at + 8) ∷ I.Choose (at + 4) ∷ [])
-    ++ turn
+    own line (some_front at constant counter limit step first more) ++ turn
 
 -- ---- CASE
 
@@ -260,13 +276,20 @@ by_label label single between = if int_eq label.low label.high then single else 
 abbrev pub test_size : Range → ℕ
 test_size label = by_label label 3 6
 
+-- the test of a label of one number
+abbrev pub single_test : (value bound miss : ℕ) → (number : ℤ) → List Instr
+single_test value bound miss number =
+    I.Const bound number ∷ I.Equal (bound + 1) bound value ∷ I.JumpZero (bound + 1) miss ∷ []
+
+-- the test of a label that is a range
+abbrev pub between_test : (value bound miss : ℕ) → Range → List Instr
+between_test value bound miss label =
+    I.Const bound label.low ∷ I.LessEq (bound + 1) bound value ∷ I.JumpZero (bound + 1) miss
+    ∷ I.Const bound label.high ∷ I.LessEq (bound + 1) value bound ∷ I.JumpZero (bound + 1) miss ∷ []
+
 -- the test of a label: goes to `miss` where the number in the slot `value` is not in it, else on behind
 abbrev pub label_test : (value bound miss : ℕ) → Range → List Instr
-label_test value bound miss label =
-    by_label label
-    (I.Const bound label.low ∷ I.Equal (bound + 1) bound value ∷ I.JumpZero (bound + 1) miss ∷ [])
-    (I.Const bound label.low ∷ I.LessEq (bound + 1) bound value ∷ I.JumpZero (bound + 1) miss
-    ∷ I.Const bound label.high ∷ I.LessEq (bound + 1) value bound ∷ I.JumpZero (bound + 1) miss ∷ [])
+label_test value bound miss label = by_label label (single_test value bound miss label.low) (between_test value bound miss label)
 
 -- a label that is not the last of its arm: goes to `hit` where the number in the slot `value` lies in it, else on behind
 abbrev pub label_code : (value bound at hit : ℕ) → Range → List Instr

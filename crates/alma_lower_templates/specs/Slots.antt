@@ -47,24 +47,28 @@ abbrev pub bare_desig : Desig → Option ℕ
 bare_desig (a_desig (root.Local from) cells sels) = fields_from from sels
 bare_desig _ = None
 
+-- the slot of which an expression is the value: that of a variable of the routine, or of a field of one
 abbrev pub bare : Expr → Option ℕ
 bare (Load d) = bare_desig d
 bare _ = None
 
--- whether a value is a variable of the routine or a constant: what puts it in place can neither fault nor change a variable
+-- whether there is such a slot
 abbrev pub is_given : Option ℕ → Bool
 is_given (Some from) = true
 is_given None = false
 
+-- whether a value is a variable of the routine or a constant: what puts it in place can neither fault nor change a variable
 abbrev pub is_ready : Expr → Bool
 is_ready (Const n) = true
 is_ready (Load d) = is_given (bare_desig d)
 is_ready _ = false
 
+-- a slot, where the condition holds
 abbrev pub if_ready : Bool → ℕ → Option ℕ
 if_ready true from = Some from
 if_ready false from = None
 
+-- the slot of a first operand, if it has one, where the next operand is ready
 abbrev pub stays_by : Option ℕ → (next : Expr) → Option ℕ
 stays_by (Some from) next = if_ready (is_ready next) from
 stays_by None next = None
@@ -103,6 +107,7 @@ ends_alone (Load d) = not (is_given (bare_desig d))
 ends_alone (Chain negated e links) = has_operator links
 ends_alone _ = false
 
+-- the slot of a variable, if it has one, where the value can go straight
 abbrev pub straight_by : Option ℕ → (alone : Bool) → Option ℕ
 straight_by (Some to) alone = if_ready alone to
 straight_by None alone = None
@@ -137,6 +142,7 @@ own_root _ _ = None
 -- ---- conditions that need no choice entry: the value of an expression without a call and without a truth
 
 abbrev mutual
+  -- whether an expression holds no call and no truth
   pub is_simple_expr : Expr → Bool
   is_simple_expr (Const n) = true
   is_simple_expr (Load d) = is_simple_desig d
@@ -147,21 +153,26 @@ abbrev mutual
   is_simple_expr (Chr e) = is_simple_expr e
   is_simple_expr (CallExpr q args up) = false
 
+  -- whether all operands behind the first are such expressions
   pub are_simple_links : Links → Bool
   are_simple_links no_links = true
   are_simple_links (more_links how e rest) = is_simple_expr e && are_simple_links rest
 
+  -- whether all indices of a designator are
   pub is_simple_desig : Desig → Bool
   is_simple_desig (a_desig root cells sels) = are_simple_sels sels
 
+  -- whether all indices among selectors are
   pub are_simple_sels : Sels → Bool
   are_simple_sels no_sels = true
   are_simple_sels (more_sels x rest) = is_simple_sel x && are_simple_sels rest
 
+  -- whether a selector is a field, or such an index
   pub is_simple_sel : Sel → Bool
   is_simple_sel (Field offset cells) = true
   is_simple_sel (Index e range cells) = is_simple_expr e
 
+-- whether a test is the value of such an expression
 abbrev pub is_simple : Test → Bool
 is_simple (Value e) = is_simple_expr e
 is_simple _ = false
@@ -181,6 +192,7 @@ abbrev pub held_constant : Test → Option ℤ
 held_constant (Value (Compare how x y)) = constant y
 held_constant _ = None
 
+-- the slot of a constant that is held, where there is one
 abbrev pub held_slots : Option ℤ → List SlotKind
 held_slots (Some n) = slot.Number ∷ []
 held_slots None = []
@@ -197,15 +209,17 @@ mark_slots false = slot.Mark ∷ []
 
 -- ---- arguments
 
--- the cells of the place that a designator names
+-- how many cells the part has that selectors name, in a place of so many
 abbrev pub cells_behind : ℕ → Sels → ℕ
 cells_behind cells no_sels = cells
 cells_behind cells (more_sels (Field offset part) rest) = cells_behind part rest
 cells_behind cells (more_sels (Index e range part) rest) = cells_behind part rest
 
+-- how many cells the place has that a designator names
 abbrev pub desig_cells : Desig → ℕ
 desig_cells (a_desig root cells sels) = cells_behind cells sels
 
+-- the kind of the slot in which an argument is handed over
 abbrev pub arg_kind : Arg → SlotKind
 arg_kind (ByValue e range) = slot.Number
 arg_kind (ByCells d) = slot.Place (desig_cells d)
@@ -219,14 +233,16 @@ handed_slots no_args = []
 handed_slots (more_args a rest) = arg_kind a ∷ handed_slots rest
 
 module _ (p : Program) (r : ℕ) where
-  -- the links on the way to the frame of the routine round the called one, of which the last is handed over
+  -- the links to the frame so many links up, where the called routine has a link
   abbrev pub links_if : (shift up : ℕ) → List SlotKind
   links_if zero up = []
   links_if (suc one) up = chain_slots p r up
 
+  -- the links on the way to the frame of the routine round the called one, of which the last is handed over
   abbrev pub call_links : (called up : ℕ) → List SlotKind
   call_links called up = links_if (shift_of p called) up
 
+  -- the links on the way to the frame of a variable or parameter of an outer routine
   abbrev pub root_slots : Root → List SlotKind
   root_slots (root.Local from) = []
   root_slots (root.Global from) = []
@@ -237,10 +253,12 @@ module _ (p : Program) (r : ℕ) where
   -- ---- phrases
 
   abbrev mutual
+    -- one statement behind another
     pub stmts_slots : Stmts → List SlotKind
     stmts_slots no_stmts = []
     stmts_slots (more_stmts line x rest) = stmt_slots x ++ stmts_slots rest
 
+    -- the parts of a statement, in the order of their code
     pub stmt_slots : Stmt → List SlotKind
     stmt_slots (TestStmt t) = test_slots t
     stmt_slots (Assign d e range) = unless_bare (bare_desig d) (desig_slots d) ++ unless_bare (bare e) (expr_slots e)
@@ -262,6 +280,7 @@ module _ (p : Program) (r : ℕ) where
     stmt_slots (WriteText text) = []
     stmt_slots WriteLine = []
 
+    -- of each arm of IF a mark, where its condition has a choice entry, the condition and the body
     pub arms_slots : Arms → List SlotKind
     arms_slots no_arms = []
     arms_slots (more_arms t body rest) = mark_slots (is_simple t) ++ (test_slots t ++ (stmts_slots body ++ arms_slots rest))
@@ -278,10 +297,12 @@ module _ (p : Program) (r : ℕ) where
     cases_slots (more_cases [] body rest) = cases_slots rest
     cases_slots (more_cases (label ∷ labels) body rest) = stmts_slots body ++ cases_slots rest
 
+    -- the statements of an ELSE part, where there is one
     pub else_slots : Else → List SlotKind
     else_slots no_else = []
     else_slots (else_part body) = stmts_slots body
 
+    -- one branch of EITHER behind another
     pub branches_slots : Branches → List SlotKind
     branches_slots no_branches = []
     branches_slots (more_branches body rest) = stmts_slots body ++ branches_slots rest
@@ -298,10 +319,12 @@ module _ (p : Program) (r : ℕ) where
         slot.Number ∷ (expr_slots from ++ (expr_slots to
         ++ (slot.Number ∷ (unless_bare (bare_desig d) (slot.Number ∷ desig_slots d) ++ stmts_slots body))))
 
+    -- the value of RETURN, where it has code
     pub return_slots : ReturnExpr → List SlotKind
     return_slots no_result = []
     return_slots (some_result e) = unless_bare (bare e) (expr_slots e)
 
+    -- the parts of a test; NOT has a mark, and a call has its links and its arguments
     pub test_slots : Test → List SlotKind
     test_slots (Value e) = unless_bare (bare e) (expr_slots e)
     test_slots (Bind d e range true) = desig_slots d ++ unless_bare (bare e) (expr_slots e)
@@ -314,6 +337,7 @@ module _ (p : Program) (r : ℕ) where
     test_slots (Not t) = slot.Mark ∷ test_slots t
     test_slots (CallTest called args up) = call_links called up ++ (handed_slots args ++ args_slots args)
 
+    -- one operand of AND behind another
     pub and_slots : Tests → List SlotKind
     and_slots no_tests = []
     and_slots (more_tests t rest) = test_slots t ++ and_slots rest
@@ -335,14 +359,17 @@ module _ (p : Program) (r : ℕ) where
     expr_slots (Chr e) = expr_slots e
     expr_slots (CallExpr called args up) = slot.Number ∷ slot.Mark ∷ (call_links called up ++ (handed_slots args ++ args_slots args))
 
+    -- one operand behind another, without those that are used in their own slot
     pub links_slots : Links → List SlotKind
     links_slots no_links = []
     links_slots (more_links how e rest) = unless_bare (bare e) (expr_slots e) ++ links_slots rest
 
+    -- what the arguments need before they are handed over
     pub args_slots : Args → List SlotKind
     args_slots no_args = []
     args_slots (more_args a rest) = arg_slots a ++ args_slots rest
 
+    -- the value or the place of an argument
     pub arg_slots : Arg → List SlotKind
     arg_slots (ByValue e range) = unless_bare (bare e) (expr_slots e)
     arg_slots (ByCells d) = desig_slots d
@@ -354,6 +381,7 @@ module _ (p : Program) (r : ℕ) where
     pub desig_slots : Desig → List SlotKind
     desig_slots (a_desig root cells sels) = slot.Place cells ∷ (root_slots root ++ sels_slots sels)
 
+    -- one selector behind another
     pub sels_slots : Sels → List SlotKind
     sels_slots no_sels = []
     sels_slots (more_sels x rest) = sel_slots x ++ sels_slots rest
@@ -365,18 +393,23 @@ module _ (p : Program) (r : ℕ) where
 
   -- ---- the first slot behind those of a phrase that takes them from `lo` on
 
+  -- of statements
   abbrev pub behind_stmts : (lo : ℕ) → Stmts → ℕ
   behind_stmts lo xs = lo + length (stmts_slots xs)
 
+  -- of a statement
   abbrev pub behind_stmt : (lo : ℕ) → Stmt → ℕ
   behind_stmt lo x = lo + length (stmt_slots x)
 
+  -- of a test
   abbrev pub behind_test : (lo : ℕ) → Test → ℕ
   behind_test lo t = lo + length (test_slots t)
 
+  -- of a condition, with its mark where it has one
   abbrev pub behind_condition : (lo : ℕ) → Test → ℕ
   behind_condition lo t = lo + length (mark_slots (is_simple t)) + length (test_slots t)
 
+  -- of an expression
   abbrev pub behind_expr : (lo : ℕ) → Expr → ℕ
   behind_expr lo e = lo + length (expr_slots e)
 
@@ -388,6 +421,7 @@ module _ (p : Program) (r : ℕ) where
   abbrev pub behind_value : (lo : ℕ) → Expr → ℕ
   behind_value lo e = lo + length (unless_bare (bare e) (expr_slots e))
 
+  -- of a designator
   abbrev pub behind_desig : (lo : ℕ) → Desig → ℕ
   behind_desig lo d = lo + length (desig_slots d)
 
@@ -412,6 +446,7 @@ param_kinds kind.Place cells = slot.Place cells ∷ []
 param_kinds kind.Mix cells = slot.Place 1 ∷ slot.Number ∷ []
 param_kinds kind.Cells cells = replicate cells slot.Number
 
+-- the slots of all parameters, in order
 abbrev pub params_kinds : List Param → List SlotKind
 params_kinds [] = []
 params_kinds (q ∷ rest) = param_kinds q.kind q.cells ++ params_kinds rest

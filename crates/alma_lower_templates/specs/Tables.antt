@@ -8,9 +8,11 @@ pub record Tables : Type 0 where
   pub ranges : List Range
   pub texts : List (List ℕ)
 
+-- whether two ranges have the same ends
 abbrev pub same_range : Range → Range → Bool
 same_range a b = int_eq a.low b.low && int_eq a.high b.high
 
+-- whether two texts have the same bytes
 abbrev pub same_text : List ℕ → List ℕ → Bool
 same_text [] [] = true
 same_text [] (b ∷ bs) = false
@@ -27,9 +29,11 @@ abbrev pub first_place : {A : Type 0} → (same : A → A → Bool) → List A �
 first_place same [] a = zero
 first_place same (b ∷ rest) a = count_past (same b a) (first_place same rest a)
 
+-- the number by which a code names a range
 abbrev pub range_number : Tables → Range → ℕ
 range_number tables range = first_place same_range tables.ranges range
 
+-- the number by which a code names a text
 abbrev pub text_number : Tables → List ℕ → ℕ
 text_number tables text = first_place same_text tables.texts text
 

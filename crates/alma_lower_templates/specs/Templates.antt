@@ -33,19 +33,22 @@ use Rattle.alma_lower_templates.specs.Pieces.{passed_over, has_dead, put_code, f
 use Rattle.alma_lower_templates.specs.Pieces.{limit_code, place_code, held_code, held_or}
 
 module _ (p : Program) (tables : Tables) (r : ℕ) where
-  -- the slot of the code for a slot of the routine, and for one of the routine so many links up
+  -- the slot of the code for a slot of the routine
   abbrev pub own_slot : ℕ → ℕ
   own_slot from = shift_of p r + from
 
+  -- the slot of the code for a slot of the routine so many links up
   abbrev pub outer_slot : (links from : ℕ) → ℕ
   outer_slot links from = shift_of p (outer_at p r links) + from
 
   -- ---- where a value stands that is used at once
 
+  -- the slot of the code for this slot of the routine, where there is one, else `lo`
   abbrev pub slot_or : Option ℕ → ℕ → ℕ
   slot_or (Some from) lo = own_slot from
   slot_or None lo = lo
 
+  -- the slot of a value that takes slots from `lo` on: its own where it is a variable of the routine, else the first
   abbrev pub value_at : (lo : ℕ) → Expr → ℕ
   value_at lo e = slot_or (bare e) lo
 
@@ -56,6 +59,7 @@ module _ (p : Program) (tables : Tables) (r : ℕ) where
   part_slot lo (Field offset cells) = lo
   part_slot lo (Index e range cells) = behind_value p r lo e
 
+  -- the slot of the part that selectors name, of the place in the slot `from`
   abbrev pub part_at : (from lo : ℕ) → Sels → ℕ
   part_at from lo no_sels = from
   part_at from lo (more_sels x rest) = part_at (part_slot lo x) (part_slot lo x + 1) rest
@@ -64,6 +68,7 @@ module _ (p : Program) (tables : Tables) (r : ℕ) where
   abbrev pub behind_root : (lo : ℕ) → Root → ℕ
   behind_root lo root = lo + 1 + length (root_slots p r root)
 
+  -- the slot of the place of a designator that takes slots from `lo` on
   abbrev pub place_at : (lo : ℕ) → Desig → ℕ
   place_at lo (a_desig root cells sels) = part_at lo (behind_root lo root) sels
 
@@ -73,6 +78,7 @@ module _ (p : Program) (tables : Tables) (r : ℕ) where
 
   -- ---- designators without selectors
 
+  -- the place of a root goes into the slot `lo`, the links on the way to it into those behind
   abbrev pub root_code : (lo : ℕ) → Root → List Instr
   root_code lo (root.Local from) = I.Local lo (own_slot from) ∷ []
   root_code lo (root.Global from) = I.Global lo from ∷ []
@@ -82,18 +88,20 @@ module _ (p : Program) (tables : Tables) (r : ℕ) where
 
   -- ---- calls
 
-  -- the link that is handed over, where there is one
+  -- a link to the frame so many links up, where the called routine has one
   abbrev pub link_if : (shift up lo : ℕ) → List Instr
   link_if zero up lo = []
   link_if (suc one) up lo = link_code lo up
 
+  -- the link that a call hands over, where the called routine has one
   abbrev pub call_link_code : (called up lo : ℕ) → List Instr
   call_link_code called up lo = link_if (shift_of p called) up lo
 
-  -- how much is handed over, and the slot of the first
+  -- how many slots are handed over: that of the link, where there is one, and those of the arguments
   abbrev pub handed : (called : ℕ) → Args → ℕ
   handed called args = shift_of p called + length (handed_slots args)
 
+  -- the slot of the first of what is handed over: of the link, where there is one, else of the first argument
   abbrev pub handed_from : (shift up lo : ℕ) → ℕ
   handed_from zero up lo = lo
   handed_from (suc one) up lo = lo + up
@@ -102,16 +110,18 @@ module _ (p : Program) (tables : Tables) (r : ℕ) where
   abbrev pub arguments_from : (called up lo : ℕ) → ℕ
   arguments_from called up lo = lo + length (call_links p r called up)
 
+  -- a call, whose result goes into the slot `to`
   abbrev pub call_code : (called : ℕ) → Args → (up lo to : ℕ) → Instr
   call_code called args up lo to = I.Call called (first_argument (handed called args) (handed_from (shift_of p called) up lo)) to
 
   -- ---- variables
 
-  -- the number in a slot goes to a variable
+  -- the number in a slot goes to a variable, into its own slot where it has one
   abbrev pub set_by : Option ℕ → (lo value : ℕ) → Desig → Instr
   set_by (Some to) lo value d = I.Move (own_slot to) value
   set_by None lo value d = I.Store (held_at lo d) value
 
+  -- the same, by where the variable stands
   abbrev pub set_code : (lo value : ℕ) → Desig → Instr
   set_code lo value d = set_by (bare_desig d) lo value d
 
@@ -120,11 +130,12 @@ module _ (p : Program) (tables : Tables) (r : ℕ) where
   set_to (Some to) line value set = straight (own_slot to) value
   set_to None line value set = value ++ own line set
 
-  -- the number of a variable goes into a slot
+  -- the number of a variable, from its own slot where it has one, goes into the slot `lo`
   abbrev pub load_by : Option ℕ → (lo : ℕ) → Desig → Instr
   load_by (Some from) lo d = I.Move lo (own_slot from)
   load_by None lo d = I.Load lo (held_at (lo + 1) d)
 
+  -- the same, by where the variable stands
   abbrev pub load_code : (lo : ℕ) → Desig → Instr
   load_code lo d = load_by (bare_desig d) lo d
 
@@ -141,15 +152,18 @@ module _ (p : Program) (tables : Tables) (r : ℕ) where
   count_at (Some to) counter lo = counter
   count_at None counter lo = lo
 
+  -- the counter goes into that slot, where it is another
   abbrev pub save_code : Option ℕ → (counter lo : ℕ) → List Instr
   save_code (Some to) counter lo = []
   save_code None counter lo = I.Move lo counter ∷ []
 
+  -- the count in its slot, and the check that the range of the variable holds it
   abbrev pub count_code : Option ℕ → Range → (counter lo : ℕ) → List Instr
   count_code o range counter lo = save_code o counter lo ++ fit_code tables range (count_at o counter lo)
 
   -- ---- RETURN
 
+  -- the check that the range of the result holds the value
   abbrev pub fit_result : Option Range → (value : ℕ) → List Instr
   fit_result (Some range) value = fit_code tables range value
   fit_result None value = []
@@ -157,11 +171,13 @@ module _ (p : Program) (tables : Tables) (r : ℕ) where
   -- ---- phrases
 
   abbrev mutual
+    -- each statement with its own line, one behind another
     pub stmts_code : (at lo : ℕ) → Stmts → List LineInstr
     stmts_code at lo no_stmts = []
     stmts_code at lo (more_stmts line x rest) =
         in_row at (stmt_code line at lo x) (λ next. stmts_code next (behind_stmt p r lo x) rest)
 
+    -- a statement with its line
     pub stmt_code : (line at lo : ℕ) → Stmt → List LineInstr
     stmt_code line at lo (TestStmt t) = test_code line at lo t
     stmt_code line at lo (Assign d e range) =
@@ -221,6 +237,7 @@ module _ (p : Program) (tables : Tables) (r : ℕ) where
         (λ next. stmts_code next (behind_condition p r lo t) body))
         (λ next jump. arms_code line jump next (behind_stmts p r (behind_condition p r lo t) body) rest otherwise)
 
+    -- the arms behind the first, and what stands behind all
     pub arms_code : (line jump at lo : ℕ) → Arms → (otherwise : (at lo : ℕ) → List LineInstr) → List LineInstr
     arms_code line jump at lo no_arms otherwise = otherwise at lo
     arms_code line jump at lo (more_arms t body rest) otherwise =
@@ -231,6 +248,7 @@ module _ (p : Program) (tables : Tables) (r : ℕ) where
         ++ own line (I.Jump jump ∷ []))
         (λ next. arms_code line jump next (behind_stmts p r (behind_condition p r lo t) body) rest otherwise)
 
+    -- FOR: its step and its bounds, then its turns
     pub for_code : (line at lo : ℕ) → Loop → List LineInstr
     for_code line at lo (a_loop d range counter limit from to by body) =
         let last : ℕ = behind_expr p r (lo + 1) from in
@@ -243,6 +261,7 @@ module _ (p : Program) (tables : Tables) (r : ℕ) where
         (set_code (place + 1) (count_at (bare_desig d) (own_slot counter) place) d)
         (λ at. stmts_code at (behind_variable p r place d) body)))
 
+    -- SOME: its step, which is 1, and its bounds, then its turns
     pub some_code : (line at lo : ℕ) → Loop → List LineInstr
     some_code line at lo (a_loop d range counter limit from to by body) =
         let last : ℕ = behind_expr p r (lo + 1) from in
@@ -269,6 +288,7 @@ module _ (p : Program) (tables : Tables) (r : ℕ) where
         leaving line at (case_arm line value bound at label labels (stmts_code (behind_labels at label labels) lo body))
         (λ next jump. cases_code line value bound jump next (behind_stmts p r lo body) rest otherwise)
 
+    -- the arms behind that one, and what stands behind all
     pub cases_code : (line value bound jump at lo : ℕ) → CaseArms → (otherwise : (at lo : ℕ) → List LineInstr) → List LineInstr
     cases_code line value bound jump at lo no_cases otherwise = otherwise at lo
     cases_code line value bound jump at lo (more_cases [] body rest) otherwise = cases_code line value bound jump at lo rest otherwise
@@ -277,7 +297,7 @@ module _ (p : Program) (tables : Tables) (r : ℕ) where
         ++ own line (I.Jump jump ∷ []))
         (λ next. cases_code line value bound jump next (behind_stmts p r lo body) rest otherwise)
 
-    -- 5 is the number of NoCase
+    -- the statements of an ELSE part; where there is none, the fault NoCase
     pub else_code : (line at lo : ℕ) → Else → List LineInstr
     else_code line at lo no_else = own line (I.Fault no_case ∷ [])
     else_code line at lo (else_part body) = stmts_code at lo body
@@ -290,6 +310,7 @@ module _ (p : Program) (tables : Tables) (r : ℕ) where
         leaving line at (branch_code line (at + 1) (stmts_code (at + 1) lo body))
         (λ next jump. branches_code line jump next (behind_stmts p r lo body) (more_branches body' rest))
 
+    -- the branches behind the first, of which the last has no choice entry
     pub branches_code : (line jump at lo : ℕ) → Branches → List LineInstr
     branches_code line jump at lo no_branches = []
     branches_code line jump at lo (more_branches body no_branches) = stmts_code at lo body
@@ -297,12 +318,14 @@ module _ (p : Program) (tables : Tables) (r : ℕ) where
         in_row at (branch_code line (at + 1) (stmts_code (at + 1) lo body) ++ own line (I.Jump jump ∷ []))
         (λ next. branches_code line jump next (behind_stmts p r lo body) (more_branches body' rest))
 
+    -- RETURN, with the check of its value
     pub return_code : (line at lo : ℕ) → ReturnExpr → List LineInstr
     return_code line at lo no_result = own line (I.Return ∷ [])
     return_code line at lo (some_result e) =
         unless_bare (bare e) (expr_code line at lo e)
         ++ own line (fit_result (routine_at p r).result (value_at lo e) ++ (I.ReturnValue (value_at lo e) ∷ []))
 
+    -- a test: the code goes on behind it where it succeeds, and fails where it does not
     pub test_code : (line at lo : ℕ) → Test → List LineInstr
     test_code line at lo (Value (Compare cmp.Unequal x y)) =
         in_row at (in_row at (unless_bare (stays x y) (expr_code line at lo x))
@@ -334,6 +357,7 @@ module _ (p : Program) (tables : Tables) (r : ℕ) where
         in_row at (own line (call_link_code called up lo)) (λ next. args_code line next first (first + length (handed_slots args)) args)
         ++ own line (call_code called args up lo 0 ∷ [])
 
+    -- one operand of AND behind another
     pub and_code : (line at lo : ℕ) → Tests → List LineInstr
     and_code line at lo no_tests = []
     and_code line at lo (more_tests t rest) = in_row at (test_code line at lo t) (λ next. and_code line next (behind_test p r lo t) rest)
@@ -346,6 +370,7 @@ module _ (p : Program) (tables : Tables) (r : ℕ) where
         leaving line at (first_of_two line (at + 2) lo (test_code line (at + 2) (lo + 1) t))
         (λ next jump. operands_code line jump next (behind_test p r (lo + 1) t) (more_tests t' rest))
 
+    -- the operands of OR behind the first, of which the last has no mark
     pub operands_code : (line jump at lo : ℕ) → Tests → List LineInstr
     operands_code line jump at lo no_tests = []
     operands_code line jump at lo (more_tests t no_tests) = test_code line at lo t
@@ -406,6 +431,7 @@ module _ (p : Program) (tables : Tables) (r : ℕ) where
     args_code line at to lo (more_args a rest) =
         in_row at (arg_code line at to lo a) (λ next. args_code line next (to + 1) (lo + length (arg_slots p r a)) rest)
 
+    -- an argument goes into the slot `to`
     pub arg_code : (line at to lo : ℕ) → Arg → List LineInstr
     arg_code line at to lo (ByValue e range) =
         put_code (is_straight e range) line to (value_at lo e) (fit_code tables range (value_at lo e))
@@ -429,6 +455,7 @@ module _ (p : Program) (tables : Tables) (r : ℕ) where
     sels_code line at from lo (more_sels x rest) =
         in_row at (sel_code line at from lo x) (λ next. sels_code line next (part_slot lo x) (part_slot lo x + 1) rest)
 
+    -- the place in the slot `from` is narrowed to a part
     pub sel_code : (line at from lo : ℕ) → Sel → List LineInstr
     sel_code line at from lo (Field offset cells) = own line (I.Field lo from offset ∷ [])
     sel_code line at from lo (Index e range cells) =
@@ -437,7 +464,7 @@ module _ (p : Program) (tables : Tables) (r : ℕ) where
 
   -- ---- the whole routine
 
-  -- at its end a function has no result, 6 is the number of NoReturn, and any other routine is left
+  -- the end of a routine: a function has no result there, the fault NoReturn, and any other routine is left
   abbrev pub end_code : Option Range → Instr
   end_code (Some range) = I.Fault no_return
   end_code None = I.Return

@@ -9,7 +9,7 @@ ghost use Rattle.alma_lower_work.specs.Front.{around};
 
 use alma_base::{NoMemory, Range};
 use alma_ir::Program;
-use alma_lower_tables::Numbers;
+use alma_lower_tables::{LINK_LEVEL, Numbers};
 
 /// The program, the numbers of its ranges and texts, and the routine that a phrase is of.
 #[derive(Clone, Copy)]
@@ -20,14 +20,17 @@ pub struct Scene<'p> {
 }
 
 impl<'p> Scene<'p> {
-    /// How many slots stand before the own slots of a routine: 1 for the link of one of level 2 or
-    /// more.
+    /// How many slots stand before the own slots of a routine: 1 for its link, where it has one.
     #[tactic(auto, unfolding(crate::specs::Front::around))]
     pub fn shift(&self, routine: u32) -> u32
         ensures shift { result ≡ shift_of (around self.now).program routine }
         ensures small { result ≤ 1 }
     {
-        if self.level(routine) >= 2 { 1 } else { 0 }
+        if self.level(routine) >= LINK_LEVEL {
+            1
+        } else {
+            0
+        }
     }
 
     // The level of a routine, and 0 where there is none.

@@ -3,7 +3,7 @@ use Rattle.std.specs.Prelude.{◌≡◌, ◌<◌, ◌+◌, ◌*◌, ◌/◌, ◌
 use Rattle.alma_code.specs.Machine.{Mode, Going, Failing, Ended, Stuck}
 use Rattle.alma_ir.specs.Count.{saturate, nodes}
 use Rattle.alma_ir.specs.Tree.{Program}
-use Rattle.alma_lower_implements.specs.Implements.{Covers, meant_end}
+use Rattle.alma_lower_implements.specs.Implements.{Covers, meant_end, visit_steps}
 use Rattle.alma_mean.specs.Events.{End, CutOff, first, end_of, visit_count}
 use Rattle.alma_mean.specs.Meaning.{ev_program, result}
 
@@ -15,7 +15,7 @@ size_of p = saturate (16 * nodes p)
 abbrev pub MayRunOut : Program → (input : List ℕ) → (steps : ℕ) → Type 0
 MayRunOut p input steps =
     (level : ℕ) → (end_of (first (ev_program level p input)) ≡ CutOff → ⊥)
-    → steps < 32 * (visit_count (first (ev_program level p input)) + 1)
+    → steps < visit_steps * (visit_count (first (ev_program level p input)) + 1)
 
 -- the words for the line of a fault, if it is known
 abbrev pub line_text : Option ℕ → List ℕ
@@ -33,5 +33,5 @@ shown_end Stuck line = CutOff
 -- one visit for each 32 steps.
 pub data Shows (p : Program) (input : List ℕ) (steps : ℕ) (printed : List ℕ) (end : End) : Type 0 where
   whole : (end ≡ CutOff → ⊥) → result (suc steps) p input ≡ (printed, end) → Shows p input steps printed end
-  front : end ≡ CutOff → Covers (first (ev_program (suc steps) p input)) printed (steps / 32) → MayRunOut p input steps
+  front : end ≡ CutOff → Covers (first (ev_program (suc steps) p input)) printed (steps / visit_steps) → MayRunOut p input steps
       → Shows p input steps printed end

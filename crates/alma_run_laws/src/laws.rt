@@ -6,7 +6,7 @@ ghost use Rattle.alma_code.specs.Machine.{Ended};
 ghost use Rattle.alma_code.specs.Plain.{PlainCode};
 ghost use Rattle.alma_code.specs.Reads.{code_reads};
 ghost use Rattle.alma_ir.specs.Tree.{Program};
-ghost use Rattle.alma_lower_implements.specs.Implements.{Implements, state_after, printed_by, line_in};
+ghost use Rattle.alma_lower_implements.specs.Implements.{Implements, state_after, printed_by, line_in, visit_steps};
 ghost use Rattle.alma_lower_implements.specs.Values.{KeepsValues};
 ghost use Rattle.alma_mean.specs.Events.{End, first, end_of, visit_count, CutOff};
 ghost use Rattle.alma_mean.specs.Meaning.{ev_program, result as meant_at};
@@ -29,7 +29,7 @@ pub fn enough_steps_show_the_result()
     ensures result { (p : Program) (input : List ℕ) (steps : ℕ) (printed : List ℕ) (end : End)
         (level : ℕ) → Shows p input steps printed end
         → (end_of (first (ev_program level p input)) ≡ CutOff → ⊥)
-        → 32 * (visit_count (first (ev_program level p input)) + 1) ≤ steps
+        → visit_steps * (visit_count (first (ev_program level p input)) + 1) ≤ steps
         → meant_at level p input ≡ (printed, end) }
 {}
 
