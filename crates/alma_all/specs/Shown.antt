@@ -5,7 +5,7 @@ use Rattle.alma_driver_words.specs.Words.{IsSetting, Steps, default_steps, is_fi
 use Rattle.alma_io.specs.Files.{Has}
 use Rattle.alma_ir.specs.Checked.{IsChecked, HaveNoReturn}
 use Rattle.alma_ir.specs.Tree.{Program, routine_at}
-use Rattle.alma_lower_implements.specs.Implements.{Covers}
+use Rattle.alma_lower_implements.specs.Implements.{Covers, visit_steps}
 use Rattle.alma_lower_sound.specs.Reads.{program_reads}
 use Rattle.alma_mean.specs.Events.{End, CutOff, first, visit_count}
 use Rattle.alma_mean.specs.Laws.{IsPrefix, ends_in_cut}
@@ -35,7 +35,7 @@ most_visits level p input =
 abbrev pub ListingMayRunOut : Program → (input : List ℕ) → (steps : ℕ) → Type 0
 ListingMayRunOut p input steps =
     (level : ℕ) → ends_in_cut (ev_program level p input) ≡ false
-    → steps < 32 * (most_visits (level + more_levels p) p input + 1)
+    → steps < visit_steps * (most_visits (level + more_levels p) p input + 1)
 
 -- what is due lists the alternatives of a program on an input, in so many steps
 pub data IsListed (p : Program) (input : List ℕ) (steps : ℕ) (due : Due) : Type 0 where
@@ -45,7 +45,7 @@ pub data IsListed (p : Program) (input : List ℕ) (steps : ℕ) (due : Due) : T
   -- the steps ran out: a front of them, which covers one visit of the listing program for each 32 steps
   front : due.end ≡ steps_out program
       → IsPrefix due.out (listing_text p.globals (ev_program (suc steps) p input))
-      → Covers (first (ev_program (suc steps) (listing_of p) input)) due.out (steps / 32) → ListingMayRunOut p input steps
+      → Covers (first (ev_program (suc steps) (listing_of p) input)) due.out (steps / visit_steps) → ListingMayRunOut p input steps
       → IsListed p input steps due
 
 -- what a run of the listing program comes to lists every alternative of the program

@@ -5,7 +5,7 @@ use Rattle.alma_io.specs.Files.{Has}
 use Rattle.alma_ir.specs.Tree.{Program}
 use Rattle.alma_mean.specs.Events.{End, Succeeded, Failed, Faulted, CutOff, first}
 use Rattle.alma_mean.specs.Meaning.{ev_program, result}
-use Rattle.alma_lower_implements.specs.Implements.{Covers}
+use Rattle.alma_lower_implements.specs.Implements.{Covers, visit_steps}
 use Rattle.alma_lower_sound.specs.Reads.{program_reads}
 use Rattle.alma_driver_words.specs.Exit as exit
 use Rattle.alma_driver_words.specs.Words.{Asks, Run, file_of}
@@ -65,7 +65,7 @@ pub record ShowsFront (words : List (List ℕ)) (stats : Bool) (p : Program) (in
     (status : ℕ) : Type 0 where
   pub status_is : status ≡ exit.steps_out
   pub printed : List ℕ
-  pub covers : Covers (first (ev_program (suc steps) p input)) printed (steps / 32)
+  pub covers : Covers (first (ev_program (suc steps) p input)) printed (steps / visit_steps)
   pub few : MayRunOut p input steps
   pub counts : Option Counts
   pub counted : AreCounts stats counts

@@ -7,6 +7,7 @@ ghost use Rattle.alma_io.specs.Outside.{StoredFile, IsUndisturbed, Outside};
 ghost use Rattle.alma_driver_outcome.specs.Outcome.{Due, ProgramOutcome, CompileOutcome, SourceOutcome, Meant, TraceMeant, ListOutcome, ExecOutcome};
 ghost use Rattle.alma_driver_outcome.specs.Causes.{Causes};
 ghost use Rattle.alma_driver_outcome.specs.Headline.{AsksToRun, IsInputLeft, RunEnds, ShowsResult};
+ghost use Rattle.alma_lower_implements.specs.Implements.{visit_steps};
 ghost use Rattle.alma_run_laws.specs.Stored.{SpellsCodeOf};
 ghost use Rattle.alma_run_laws.specs.Variables.{variable_word};
 ghost use Rattle.alma_lower.specs.Names.{KeepsNames};
@@ -111,6 +112,6 @@ pub fn enough_steps_show_the_result()
         → Causes words before after status → IsUndisturbed before after status
         → IsProgramOf source p → size_of p ≤ size_limit
         → (end_of (first (ev_program level p input)) ≡ CutOff → ⊥)
-        → 32 * (visit_count (first (ev_program level p input)) + 1) ≤ steps
+        → visit_steps * (visit_count (first (ev_program level p input)) + 1) ≤ steps
         → ShowsResult stats (meant_at level p input) before after status }
 {}
