@@ -1,7 +1,7 @@
 MODULE Kept;
-(* The fewest coins for an amount. A cell of the table that is known is not reckoned again. *)
+(* The fewest coins for an amount. A cell of the table that is known is not computed again. *)
 CONST Coins = 4; Most = 200;
-VAR coin: ARRAY [1..Coins] OF INTEGER; fewest: ARRAY [0..Most] OF INTEGER; reckoned: INTEGER;
+VAR coin: ARRAY [1..Coins] OF INTEGER; fewest: ARRAY [0..Most] OF INTEGER; computed: INTEGER;
 
 PROCEDURE Fewest(n: INTEGER): INTEGER;
 VAR i, count, best: INTEGER;
@@ -14,14 +14,14 @@ BEGIN
         IF count < best THEN best := count END
       END
     END;
-    fewest[n] := best; reckoned := reckoned + 1
+    fewest[n] := best; computed := computed + 1
   END;
   RETURN fewest[n]
 END Fewest;
 
 BEGIN
-  coin[1] := 1; coin[2] := 7; coin[3] := 10; coin[4] := 25; reckoned := 0;
-  WRITELN(Fewest(14), " ", Fewest(43), " ", Fewest(199), ", and ", reckoned, " amounts were reckoned");
+  coin[1] := 1; coin[2] := 7; coin[3] := 10; coin[4] := 25; computed := 0;
+  WRITELN(Fewest(14), " ", Fewest(43), " ", Fewest(199), ", and ", computed, " amounts were computed");
   NOT (Fewest(200) = 1);
   WRITELN("199 is kept: ", KNOWN(fewest[199]), ", 200 is kept: ", KNOWN(fewest[200]))
 END Kept.
