@@ -3,7 +3,7 @@ ghost use Rattle.std.specs.Prelude.{◌≡◌, length, get_or};
 ghost use Rattle.alma_code.specs.Plain.{code_of, head_at, start_at, end_at};
 ghost use Rattle.alma_code.specs.declared.instr.Instr.TheVariants as I;
 
-use alma_code::{Code, Instr};
+use alma_code::{Code, Head, Instr};
 
 /// Whether a routine has a result.
 pub fn has_result(code: &Code, routine: u32) -> bool
