@@ -24,6 +24,13 @@ _alma() {
   1,*) mapfile -t COMPREPLY < <(compgen -W "check run trace compile list exec sample all link pool back why replay help --help --version" -- "$word") ;;
   2,check | 2,run | 2,trace | 2,compile | 2,replay | 2,all) mapfile -t COMPREPLY < <(compgen -o plusdirs -f -X '!*.al' -- "$word") ;;
   2,link) mapfile -t COMPREPLY < <(compgen -W 'run compile' -- "$word") ;;
+  3,link) # the name of an object is no source's
+    if [ "${COMP_WORDS[COMP_CWORD - 1]}" = compile ]; then
+      mapfile -t COMPREPLY < <(compgen -f -- "$word")
+    else
+      mapfile -t COMPREPLY < <(compgen -o plusdirs -f -X '!*.al' -- "$word")
+    fi
+    ;;
   *,link) mapfile -t COMPREPLY < <(compgen -o plusdirs -f -X '!*.al' -- "$word") ;;
   2,list | 2,exec | 3,compile | *,pool | 2,back | 3,back) mapfile -t COMPREPLY < <(compgen -f -- "$word") ;;
   2,help) mapfile -t COMPREPLY < <(compgen -W "$(_alma_topics)" -- "$word") ;;

@@ -31,7 +31,7 @@ complete -c alma -n __fish_use_subcommand -a replay -d 'write a page in which a 
 complete -c alma -n __fish_use_subcommand -a help -d 'print the commands, or what a fault, a status, an option or a word means'
 complete -c alma -n __fish_use_subcommand -l help -d 'print the commands'
 complete -c alma -n __fish_use_subcommand -l version -d 'print which program runs'
-complete -c alma -n '__fish_seen_subcommand_from why; and __alma_at 1 ""' -a 'check run trace compile list exec all link pool back'
+complete -c alma -n '__fish_seen_subcommand_from why; and __alma_at 1 ""' -a 'check run trace compile list exec sample all link pool back'
 complete -c alma -n '__alma_at 2 check run trace compile replay all' -a '(__fish_complete_suffix .al | string match -r ".*(?:\.al|/)(?:\t.*)?\$")'
 complete -c alma -n '__alma_at 2 link' -a 'run compile'
 complete -c alma -n '__alma_behind link' -a '(__fish_complete_suffix .al)'
@@ -43,6 +43,6 @@ complete -c alma -n '__alma_behind replay' -l input -r -d 'what the program read
 complete -c alma -n '__alma_behind replay' -s o -r -d 'the page'
 complete -c alma -n '__alma_at 2 help' -d command -a 'check run trace compile list exec sample all link pool back why replay'
 complete -c alma -n '__alma_at 2 help' -d page -a 'tutorial idioms language commands faults'
-complete -c alma -n '__alma_at 2 help' -d word -a 'EITHER ORELSE SOME FORALL COMMIT NOT KNOWN FOR WHILE REPEAT CASE IF VAR MIX READ WRITE WRITELN RETURN DIV MOD'
+complete -c alma -n '__alma_at 2 help' -d word -a 'EITHER ORELSE SOME FORALL COMMIT NOT KNOWN FOR WHILE REPEAT CASE IF VAR MIX READ WRITE WRITELN RETURN DIV MOD ORD CHR'
 # The faults of docs/FAULTS.md beside the script.
 complete -c alma -n '__alma_at 2 help' -d fault -a '(sed -n "s/^### \([A-Za-z]*\).*/\1/p" (dirname (realpath (command -s (commandline -opc)[1])))/docs/FAULTS.md 2>/dev/null)'
