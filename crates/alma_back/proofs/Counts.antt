@@ -42,10 +42,6 @@ pub count_found : (text : List ℕ) (count : ℕ) → IsNumeral count_digits tex
     → Some count ≡ count_in text
 count_found text count h some = sym (count_is text count h.0 h.1 (omega (arith, some)))
 
-pub count_zero : (text : List ℕ) (count : ℕ) → IsNumeral count_digits text count × (count ≤ greatest_count) → count ≡ 0
-    → None ≡ count_in text
-count_zero text count h zero = sym (no_count text (λ (k : Counts text). absurd (omega (arith, zero, h.0.value, k.some))))
-
 pub count_none : (text : List ℕ) → ((count : ℕ) → IsNumeral count_digits text count → count ≤ greatest_count → ⊥) → None ≡ count_in text
 count_none text other = sym (no_count text (λ (k : Counts text). other (value_of text) k.numeral k.small))
 

@@ -31,9 +31,9 @@ pub enum Line<'s> {
 fn count_of(text: &[u8]) -> Option<u64>
     ensures { result ≡ count_in text.now }
 {
-    match numeral(text, COUNT_DIGITS, GREATEST_COUNT) {
-        Some(count) => if count == 0 { None } else { Some(count) },
-        None => None,
+    match numeral(text, COUNT_DIGITS, GREATEST_COUNT)? {
+        0 => None,
+        count => Some(count),
     }
 }
 
@@ -64,19 +64,9 @@ fn read_line(text: &[u8]) -> Option<Line<'_>>
     ensures some { IfSome result (λ line. 1 ≤ length text.now) }
 {
     match text {
-        [] => None,
-        [letter] => if *letter == b'o' {
-            Some(Line::Output)
-        } else {
-            None
-        },
-        [letter, blank, rest @ ..] => {
-            if *blank == b' ' {
-                line_with(*letter, rest)
-            } else {
-                None
-            }
-        }
+        [b'o'] => Some(Line::Output),
+        [letter, b' ', rest @ ..] => line_with(*letter, rest),
+        _ => None,
     }
 }
 
@@ -87,12 +77,10 @@ fn split_line(text: &[u8]) -> Option<(&[u8], &[u8])>
     ensures length { IfSome result
         (λ split. length split.0.now + (1 + length split.1.now) ≡ length text.now) }
 {
-    let mut at = 0;
-    while at < text.len() {
+    for at in 0..text.len() {
         if text[at] == b'\n' {
             return Some((&text[..at], &text[at + 1..]));
         }
-        at += 1;
     }
     None
 }
