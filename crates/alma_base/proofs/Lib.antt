@@ -1,4 +1,5 @@
 mod Division
 pub mod Finds
+pub mod FirstFault
 pub mod Numerals
 pub mod Rests

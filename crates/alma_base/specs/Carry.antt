@@ -9,6 +9,7 @@ pub record Change (C : Type 0) : Type 0 where
   pub slot : ℕ
   pub cell : C
 
+-- the changes that a FORALL lays over the frames for its next alternative
 abbrev pub Carry : Type 0 → Type 0
 Carry C = List (Change C)
 

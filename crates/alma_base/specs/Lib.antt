@@ -3,6 +3,7 @@ pub mod Numbers
 pub mod Choice
 pub mod Value
 pub mod Fault
+pub mod FirstFault
 pub mod Bytes
 pub mod Reading
 pub mod Finding

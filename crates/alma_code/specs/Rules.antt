@@ -4,6 +4,7 @@
 use Rattle.std.specs.Prelude.{◌≡◌, ℕ, zero, suc, ◌+◌, ◌-◌, ◌*◌, ◌<◌, ◌≤◌, Bool, true, false, not, ◌&&◌, ◌||◌, nat_eq, nat_lt, nat_le, List}
 use Rattle.std.specs.Prelude.{[], ◌∷◌, length, get_or, Option, Some, None, slice_get}
 use Rattle.std.specs.List.{list_all}
+use Rattle.alma_base.specs.FirstFault.{unless, or_else}
 use Rattle.alma_base.specs.Limits.{cell_limit, slot_limit}
 use Rattle.alma_base.specs.Numbers.{range_size}
 use Rattle.alma_base.specs.declared.number.Range.{Range}
@@ -278,29 +279,23 @@ module _ (code : PlainCode) where
 
 -- ---- the first broken rule
 
--- the rule and its place where the test fails, and else what comes after
-abbrev pub unless : (holds : Bool) → (rule at : ℕ) → Option VerifyFault → Option VerifyFault
-unless true rule at rest = rest
-unless false rule at rest = Some (record { rule = rule; at = at })
-
--- the first of two that is there
-abbrev pub or_else : Option VerifyFault → Option VerifyFault → Option VerifyFault
-or_else (Some f) rest = Some f
-or_else None rest = rest
+-- the fault that tells a rule, and the routine or the address that breaks it
+abbrev pub breach : (rule at : ℕ) → VerifyFault
+breach rule at = record { rule = rule; at = at }
 
 module _ (code : PlainCode) where
   -- of the instruction at an address of the routine
   unfoldable pub instr_fault : (r at : ℕ) → Instr → Option VerifyFault
   instr_fault r at i =
-      unless (rule_4 code r i) 4 at
-      (unless (rule_5 code r i) 5 at
-      (unless (rule_6 code r i) 6 at
-      (unless (rule_7 code r i) 7 at
-      (unless (rule_8 code i) 8 at
-      (unless (rule_9 code r i) 9 at
-      (unless (rule_10 code r at i) 10 at
-      (unless (rule_11 code r at i) 11 at
-      (unless (rule_12 code r i) 12 at None))))))))
+      unless (rule_4 code r i) (breach 4 at)
+      (unless (rule_5 code r i) (breach 5 at)
+      (unless (rule_6 code r i) (breach 6 at)
+      (unless (rule_7 code r i) (breach 7 at)
+      (unless (rule_8 code i) (breach 8 at)
+      (unless (rule_9 code r i) (breach 9 at)
+      (unless (rule_10 code r at i) (breach 10 at)
+      (unless (rule_11 code r at i) (breach 11 at)
+      (unless (rule_12 code r i) (breach 12 at) None))))))))
 
   -- of n instructions of the routine from an address on
   unfoldable pub instrs_fault : (r at n : ℕ) → Option VerifyFault
@@ -310,9 +305,9 @@ module _ (code : PlainCode) where
   -- of a routine: its head, then its instructions in order
   unfoldable pub routine_fault : ℕ → Option VerifyFault
   routine_fault r =
-      unless (rule_1 code r) 1 r
-      (unless (rule_2 code r) 2 r
-      (unless (rule_3 code r) 3 r
+      unless (rule_1 code r) (breach 1 r)
+      (unless (rule_2 code r) (breach 2 r)
+      (unless (rule_3 code r) (breach 3 r)
       (instrs_fault r (start_at code r) (end_at code r - start_at code r))))
 
   -- of n routines from one on

@@ -30,13 +30,13 @@ use Rattle.alma_code.specs.declared.instr.Instr.{Instr}
 use Rattle.alma_code.specs.declared.instr.Instr.TheVariants as I
 use Rattle.alma_code.specs.declared.instr.Word.{Word}
 use Rattle.alma_code.specs.declared.instr.Word.TheVariants as W
-use Rattle.alma_code.specs.declared.step.VerifyFault.{VerifyFault}
 use Rattle.alma_base.specs.declared.fault.RunFault.TheVariants as fault
 use Rattle.alma_code.specs.Plain.{PlainCode, head_at, kinds_at, start_at, end_at}
 use Rattle.alma_code.specs.Words.{words, four}
 use Rattle.alma_code.specs.Kinds.{is_number, is_place, is_mark, numbers_from}
 use Rattle.alma_code.specs.Rules.{kind_in, length_in, is_free, is_address, names_slot, names_entry, names_address, rule_4, rule_5, rule_6}
-use Rattle.alma_code.specs.Rules.{rule_7, rule_8, rule_9, rule_10, rule_11, rule_12, unless, instr_fault, IsSound, is_main, is_global}
+use Rattle.alma_base.proofs.FirstFault.{unless_none}
+use Rattle.alma_code.specs.Rules.{rule_7, rule_8, rule_9, rule_10, rule_11, rule_12, instr_fault, IsSound, is_main, is_global}
 use Rattle.alma_code.specs.Rules.{fit_arguments, holds_first, holds_result, can_call, cells_in}
 use Rattle.alma_base.specs.Choice.{if_true}
 use Rattle.alma_code.specs.Picture.{kind_at}
@@ -50,11 +50,6 @@ use Rattle.alma_code.proofs.Heads.{number_is}
 use Rattle.alma_code_laws.proofs.Ready.{Ready, last-routine, Good, place_is, if_true_keeps, went_good, fails_good, fault_good, number_good}
 use Rattle.alma_code_laws.proofs.Ready.{place_good, put_number_good, put_place_good, store_good, ranged_good, equation_good, cell_ready}
 use Rattle.alma_code_laws.proofs.Ready.{slot_ready, has_slot, number_there, number_at_is, content_any}
-
--- no fault of a test and of what comes after it: the test holds, and nothing comes after
-unless_none : (b : Bool) (rule at : ℕ) (rest : Option VerifyFault) → unless b rule at rest ≡ None → (b ≡ true) × (rest ≡ None)
-unless_none true rule at rest e = (refl, e)
-unless_none false rule at rest e = absurd (cc)
 
 -- a test of which the other half is false
 pub or_false : (b : Bool) → (b || false) ≡ true → b ≡ true
@@ -87,15 +82,15 @@ module _ (code : PlainCode) where
   pub obeys : (r at : ℕ) (i : Instr) → instr_fault code r at i ≡ None → Obeys r at i
   unfolding instr_fault
   obeys r at i e =
-      let a = unless_none (rule_4 code r i) 4 at _ e in
-      let b = unless_none (rule_5 code r i) 5 at _ a.1 in
-      let c = unless_none (rule_6 code r i) 6 at _ b.1 in
-      let d = unless_none (rule_7 code r i) 7 at _ c.1 in
-      let f = unless_none (rule_8 code i) 8 at _ d.1 in
-      let g = unless_none (rule_9 code r i) 9 at _ f.1 in
-      let h = unless_none (rule_10 code r at i) 10 at _ g.1 in
-      let j = unless_none (rule_11 code r at i) 11 at _ h.1 in
-      let k = unless_none (rule_12 code r i) 12 at _ j.1 in
+      let a = unless_none (rule_4 code r i) _ _ e in
+      let b = unless_none (rule_5 code r i) _ _ a.1 in
+      let c = unless_none (rule_6 code r i) _ _ b.1 in
+      let d = unless_none (rule_7 code r i) _ _ c.1 in
+      let f = unless_none (rule_8 code i) _ _ d.1 in
+      let g = unless_none (rule_9 code r i) _ _ f.1 in
+      let h = unless_none (rule_10 code r at i) _ _ g.1 in
+      let j = unless_none (rule_11 code r at i) _ _ h.1 in
+      let k = unless_none (rule_12 code r i) _ _ j.1 in
       record { r4 = a.0; r5 = b.0; r6 = c.0; r7 = d.0; r8 = f.0; r9 = g.0; r10 = h.0; r11 = j.0; r12 = k.0 }
 
   -- the machine has taken the instruction at an address of routine r

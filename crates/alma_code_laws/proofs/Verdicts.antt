@@ -1,21 +1,12 @@
 -- A code with no broken rule is sound, and the other way round.
-use Rattle.std.proofs.Common.{◌≡◌, ℕ, zero, suc, ◌+◌, ◌-◌, ◌<◌, length, get_or, refl, ap, ◌∙◌, subst, arith, Option, Some, None}
-use Rattle.std.specs.Prelude.{Bool, true, false, ◌↔◌}
+use Rattle.std.proofs.Common.{◌≡◌, ℕ, zero, suc, ◌+◌, ◌-◌, ◌<◌, length, get_or, refl, ap, ◌∙◌, subst, arith, None}
+use Rattle.std.specs.Prelude.{true, ◌↔◌}
 use Rattle.alma_code.specs.declared.instr.Instr.TheVariants as I
-use Rattle.alma_code.specs.declared.step.VerifyFault.{VerifyFault}
 use Rattle.alma_code.specs.Plain.{PlainCode, start_at, end_at}
-use Rattle.alma_code.specs.Rules.{unless, or_else, rule_1, rule_2, rule_3, instr_fault, instrs_fault, routine_fault, routines_fault}
+use Rattle.alma_base.proofs.FirstFault.{unless_none, or_none}
+use Rattle.alma_base.specs.FirstFault.{unless, or_else}
+use Rattle.alma_code.specs.Rules.{breach, rule_1, rule_2, rule_3, instr_fault, instrs_fault, routine_fault, routines_fault}
 use Rattle.alma_code.specs.Rules.{code_fault, IsTable, IsSound}
-
--- where neither of two is there, the first that is there is none
-or_else_none : (a b : Option VerifyFault) → or_else a b ≡ None → (a ≡ None) × (b ≡ None)
-or_else_none None b e = (refl, e)
-or_else_none (Some f) b e = absurd (cc)
-
--- no fault of a test and of what comes after it: the test holds, and nothing comes after
-unless_none : (b : Bool) (rule at : ℕ) (rest : Option VerifyFault) → unless b rule at rest ≡ None → (b ≡ true) × (rest ≡ None)
-unless_none true rule at rest e = (refl, e)
-unless_none false rule at rest e = absurd (cc)
 
 module _ (code : PlainCode) where
   -- where n instructions have no fault, each has none
@@ -26,11 +17,11 @@ module _ (code : PlainCode) where
   instr_sound r at (suc n) zero e lt =
       let z : at ≡ at + 0 = omega arith in
       subst (λ q. instr_fault code r q (get_or code.instrs q I.Fail) ≡ None) z
-      (or_else_none (instr_fault code r at (get_or code.instrs at I.Fail)) (instrs_fault code r (suc at) n) e).0
+      (or_none (instr_fault code r at (get_or code.instrs at I.Fail)) (instrs_fault code r (suc at) n) e).0
   instr_sound r at (suc n) (suc k) e lt =
       let z : suc at + k ≡ at + suc k = omega arith in
       subst (λ q. instr_fault code r q (get_or code.instrs q I.Fail) ≡ None) z
-      (instr_sound r (suc at) n k (or_else_none (instr_fault code r at (get_or code.instrs at I.Fail)) (instrs_fault code r (suc at) n) e).1
+      (instr_sound r (suc at) n k (or_none (instr_fault code r at (get_or code.instrs at I.Fail)) (instrs_fault code r (suc at) n) e).1
       (omega arith))
 
   -- where n routines have no fault, each has none
@@ -38,20 +29,20 @@ module _ (code : PlainCode) where
   unfolding routines_fault
   routine_sound r zero k e lt = absurd (omega arith)
   routine_sound r (suc n) zero e lt = let z : r ≡ r + 0 = omega arith in
-      subst (λ q. routine_fault code q ≡ None) z (or_else_none (routine_fault code r) (routines_fault code (suc r) n) e).0
+      subst (λ q. routine_fault code q ≡ None) z (or_none (routine_fault code r) (routines_fault code (suc r) n) e).0
   routine_sound r (suc n) (suc k) e lt =
       let z : suc r + k ≡ r + suc k = omega arith in
       subst (λ q. routine_fault code q ≡ None) z
-      (routine_sound (suc r) n k (or_else_none (routine_fault code r) (routines_fault code (suc r) n) e).1 (omega arith))
+      (routine_sound (suc r) n k (or_none (routine_fault code r) (routines_fault code (suc r) n) e).1 (omega arith))
 
   -- a routine without a fault keeps the rules of its head, and its instructions have none
   parts : (r : ℕ) → routine_fault code r ≡ None → ((rule_1 code r ≡ true) × (rule_2 code r ≡ true) × (rule_3 code r ≡ true))
       × (instrs_fault code r (start_at code r) (end_at code r - start_at code r) ≡ None)
   unfolding routine_fault
   parts r e =
-      let a = unless_none (rule_1 code r) 1 r _ e in
-      let b = unless_none (rule_2 code r) 2 r _ a.1 in
-      let c = unless_none (rule_3 code r) 3 r _ b.1 in
+      let a = unless_none (rule_1 code r) _ _ e in
+      let b = unless_none (rule_2 code r) _ _ a.1 in
+      let c = unless_none (rule_3 code r) _ _ b.1 in
       ((a.0, b.0, c.0), c.1)
 
   -- a code with no broken rule is sound
@@ -100,9 +91,9 @@ module _ (code : PlainCode) where
   unfolding routine_fault
   whole r h e =
       let rest = instrs_fault code r (start_at code r) (end_at code r - start_at code r) in
-      ap (λ b. unless b 1 r (unless (rule_2 code r) 2 r (unless (rule_3 code r) 3 r rest))) h.0
-      ∙ ap (λ b. unless b 2 r (unless (rule_3 code r) 3 r rest)) h.1
-      ∙ ap (λ b. unless b 3 r rest) h.2 ∙ e
+      ap (λ b. unless b (breach 1 r) (unless (rule_2 code r) (breach 2 r) (unless (rule_3 code r) (breach 3 r) rest))) h.0
+      ∙ ap (λ b. unless b (breach 2 r) (unless (rule_3 code r) (breach 3 r) rest)) h.1
+      ∙ ap (λ b. unless b (breach 3 r) rest) h.2 ∙ e
 
   -- a sound code has no broken rule
   pub no_fault : IsSound code → code_fault code ≡ None

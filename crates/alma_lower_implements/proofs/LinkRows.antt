@@ -14,7 +14,6 @@ use Rattle.alma_ir.specs.Tree.{Program, routine_at}
 use Rattle.alma_ir.specs.Checked.{IsNested, link_slots, outer_at}
 use Rattle.alma_mean.specs.Store.{Store, top, top_frame, up, up_from, Place}
 use Rattle.alma_mean.specs.Store as store
-use Rattle.alma_mean.specs.Events.{one}
 use Rattle.alma_lower_implements.proofs.Goes.{Silently, and_then, before}
 use Rattle.alma_lower_implements.proofs.Frames.{shift_in, own_end, HasLink, StandFor, Fits, IsAt}
 use Rattle.alma_lower_implements.proofs.FrameLemmas.{fits_on, fits_temp, holds_written}

@@ -10,11 +10,11 @@ use Rattle.alma_code.specs.declared.instr.Instr.{Instr}
 use Rattle.alma_code.specs.declared.instr.Instr.TheVariants as I
 use Rattle.alma_code.specs.declared.instr.Word.{Word}
 use Rattle.alma_code.specs.declared.instr.Word.TheVariants as W
-use Rattle.alma_code.specs.declared.step.VerifyFault.{VerifyFault}
 use Rattle.alma_code.specs.Kinds.{is_number, is_place, is_mark, is_link}
 use Rattle.alma_code.specs.Plain.{PlainCode, head_at, start_at, end_at, kinds_at}
-use Rattle.alma_code.specs.Rules.{IsSound, kind_in, is_free, names_slot, names_entry, names_address, ends_routine, rule_4, rule_5}
-use Rattle.alma_code.specs.Rules.{rule_6, rule_7, rule_8, rule_9, rule_10, rule_11, rule_12, unless, instr_fault}
+use Rattle.alma_code.specs.Rules.{IsSound, kind_in, is_free, names_slot, names_entry, names_address, ends_routine}
+use Rattle.alma_base.proofs.FirstFault.{unless_holds}
+use Rattle.alma_code.specs.Rules.{breach, rule_11, instr_fault}
 use Rattle.alma_code.specs.Words.{words}
 use Rattle.alma_code_laws.proofs.Acts.{Obeys, obeys}
 use Rattle.alma_lower_slots.specs.Runs.{HasHeads}
@@ -25,23 +25,19 @@ use Rattle.alma_lower_slots.proofs.WordsRenamed.{renamed_word, keeps_form, all_w
 use Rattle.alma_lower_slots.proofs.RulesRenamed.{is_own, word_there, keeps_rules}
 use Rattle.alma_lower_slots.proofs.HeadsRenamed.{new_full, new_table, new_heads}
 
--- a test that passes hands on to what comes after it
-passes : (b : Bool) (rule at : ℕ) (rest : Option VerifyFault) → b ≡ true → unless b rule at rest ≡ rest
-passes b rule at rest e = ap (λ x. unless x rule at rest) e
-
 -- an instruction that keeps each of its rules has no fault
 pub no_fault : (code : PlainCode) (r at : ℕ) (i : Instr) → Obeys code r at i → instr_fault code r at i ≡ None
 unfolding instr_fault
 no_fault code r at i o =
-    passes (rule_4 code r i) 4 at _ o.r4
-    ∙ (passes (rule_5 code r i) 5 at _ o.r5
-    ∙ (passes (rule_6 code r i) 6 at _ o.r6
-    ∙ (passes (rule_7 code r i) 7 at _ o.r7
-    ∙ (passes (rule_8 code i) 8 at _ o.r8
-    ∙ (passes (rule_9 code r i) 9 at _ o.r9
-    ∙ (passes (rule_10 code r at i) 10 at _ o.r10
-    ∙ (passes (rule_11 code r at i) 11 at _ o.r11
-    ∙ passes (rule_12 code r i) 12 at None o.r12)))))))
+    unless_holds (breach 4 at) _ o.r4
+    ∙ (unless_holds (breach 5 at) _ o.r5
+    ∙ (unless_holds (breach 6 at) _ o.r6
+    ∙ (unless_holds (breach 7 at) _ o.r7
+    ∙ (unless_holds (breach 8 at) _ o.r8
+    ∙ (unless_holds (breach 9 at) _ o.r9
+    ∙ (unless_holds (breach 10 at) _ o.r10
+    ∙ (unless_holds (breach 11 at) _ o.r11
+    ∙ unless_holds (breach 12 at) _ o.r12)))))))
 
 module _ (code new : PlainCode) (s : Sharing) (sound : IsSound code) (shares : Shares code s) (renames : Renames code s new)
     (heads : HasHeads code new) where

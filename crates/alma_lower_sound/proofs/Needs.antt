@@ -12,17 +12,13 @@ use Rattle.alma_code.specs.declared.cell.SlotKind.TheVariants as slot
 use Rattle.alma_code.specs.declared.instr.Instr.{Instr}
 use Rattle.alma_code.specs.declared.instr.Instr.TheVariants as I
 use Rattle.alma_code.specs.declared.instr.Word.TheVariants as W
-use Rattle.alma_code.specs.declared.step.VerifyFault.{VerifyFault}
 use Rattle.alma_code.specs.Kinds.{is_number, is_place, is_place_of, is_mark, is_link, is_link_of, numbers_from}
 use Rattle.alma_code.specs.Plain.{PlainCode, head_at, start_at, end_at, kinds_at}
 use Rattle.alma_code.specs.Words.{words, four}
-use Rattle.alma_code.specs.Rules.{unless, instr_fault, rule_4, rule_5, rule_6, rule_7, rule_8, rule_9, rule_10, rule_11, rule_12}
+use Rattle.alma_base.proofs.FirstFault.{unless_holds}
+use Rattle.alma_code.specs.Rules.{breach, instr_fault, rule_4, rule_5, rule_6, rule_7, rule_8, rule_9, rule_10, rule_11, rule_12}
 use Rattle.alma_code.specs.Rules.{names_slot, names_entry, names_address, is_slot, is_free, length_in, place_length, link_in, link_routine}
 use Rattle.alma_code.specs.Rules.{cells_in, has_room, fit_arguments, holds_first, holds_result, ends_routine}
-
--- a test that passes hands on to what comes after it
-passed : {b : Bool} (rule at : ℕ) (rest : Option VerifyFault) → b ≡ true → unless b rule at rest ≡ rest
-passed rule at rest h = ap (λ x. unless x rule at rest) h
 
 module _ (code : PlainCode) (r : ℕ) where
   -- a slot of the routine of this kind, not the input position
@@ -247,9 +243,9 @@ module _ (code : PlainCode) (r : ℕ) where
         → instr_fault code r at i ≡ None
     unfolding instr_fault
     clean at i h4 h5 h6 h7 h8 h9 h10 h11 h12 =
-        passed 4 at _ h4 ∙ (passed 5 at _ h5 ∙ (passed 6 at _ h6
-        ∙ (passed 7 at _ h7 ∙ (passed 8 at _ h8
-        ∙ (passed 9 at _ h9 ∙ (passed 10 at _ h10 ∙ (passed 11 at _ h11 ∙ passed 12 at _ h12)))))))
+        unless_holds (breach 4 at) _ h4 ∙ (unless_holds (breach 5 at) _ h5 ∙ (unless_holds (breach 6 at) _ h6
+        ∙ (unless_holds (breach 7 at) _ h7 ∙ (unless_holds (breach 8 at) _ h8
+        ∙ (unless_holds (breach 9 at) _ h9 ∙ (unless_holds (breach 10 at) _ h10 ∙ (unless_holds (breach 11 at) _ h11 ∙ unless_holds (breach 12 at) _ h12)))))))
 
     not_last : (at : ℕ) (i : Instr) → suc at < end_at code r → rule_11 code r at i ≡ true
     unfolding rule_11

@@ -23,7 +23,7 @@ use Rattle.alma_mean.specs.Events as events
 use Rattle.alma_mean.specs.Events.{Events, NoYield, Go, Visit, Print, Alt, Fail, Fault, Cut, one, join, bind, node}
 use Rattle.alma_mean.specs.Arithmetic.{check_range, fault_unless}
 use Rattle.alma_mean.specs.Rows.{return_within}
-use Rattle.alma_mean.specs.Meaning.{Level, level, level_0, level_above, ev_stmts, ev_stmt, ev_expr}
+use Rattle.alma_mean.specs.Meaning.{Level, level_0, level_above, ev_stmts, ev_stmt, ev_expr}
 use Rattle.alma_lower_implements.proofs.Goes.{IsOn, Goes, no_step}
 use Rattle.alma_lower_implements.proofs.BareRow.{ReadsFirst}
 use Rattle.alma_lower_implements.proofs.Frames.{own_end}

@@ -1,5 +1,5 @@
 -- The declarations of a block, and the entries of its map.
-use Rattle.std.proofs.Common.{◌≡◌, ℕ, ◌+◌, ◌<◌, ◌≤◌, List, [], ◌∷◌, ◌++◌, Option, None, Some, Bool, true, false, cond, not, Vec, Global}
+use Rattle.std.proofs.Common.{◌≡◌, ℕ, ◌+◌, ◌<◌, ◌≤◌, List, [], ◌∷◌, ◌++◌, Option, None, Some, Bool, cond, not, Vec, Global}
 use Rattle.std.proofs.Common.{length, map, position, slice_get, refl, ap, sym, ◌∙◌, arith, true≢false, is_some}
 use Rattle.std.specs.Prelude.{bytes_eq}
 use Rattle.std.specs.Option.{option_map}

@@ -1,5 +1,5 @@
 -- A table of shapes as a list of plain shapes, in which a shape's number is its place, and what each shape holds.
-use Rattle.std.specs.Prelude.{◌≢◌, ℕ, ◌+◌, ◌-◌, ◌*◌, ◌<◌, ◌≤◌, pos, ◌-ℤ◌, ◌≤ℤ◌, nat_lt, Bool, true, false, ◌||◌, IsTrue, IsFalse, List, []}
+use Rattle.std.specs.Prelude.{◌≢◌, ℕ, ◌+◌, ◌*◌, ◌<◌, ◌≤◌, pos, ◌-ℤ◌, ◌≤ℤ◌, nat_lt, Bool, true, false, ◌||◌, IsTrue, IsFalse, List, []}
 use Rattle.std.specs.Prelude.{◌∷◌, ◌++◌, map, get_or, slice_get, AllPairs, bytes_eq, Option, None, Some, IsSomeAnd, option_map}
 use Rattle.std.specs.Prelude.{option_and_then, unwrap_or, Result, Ok, Err, if◌then◌else◌}
 use Rattle.alma_base.specs.Limits.{cell_limit}

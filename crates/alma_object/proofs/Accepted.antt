@@ -1,5 +1,5 @@
 -- An object is accepted: its header.
-use Rattle.std.proofs.Common.{◌≡◌, ◌⊎◌, ℕ, zero, suc, ◌+◌, ◌*◌, ◌^◌, ◌<◌, ◌≤◌, Bool, true, false, Option, None, List, [], ◌∷◌, ◌++◌, length}
+use Rattle.std.proofs.Common.{◌≡◌, ◌⊎◌, ℕ, zero, suc, ◌+◌, ◌*◌, ◌^◌, ◌<◌, ◌≤◌, Bool, true, false, None, List, [], ◌∷◌, ◌++◌, length}
 use Rattle.std.proofs.Common.{get_or, take, drop, refl, sym, ap, subst, ◌∙◌, arith, inl, inr}
 use Rattle.std.specs.Prelude.{nat_eq, nat_le, ◌||◌, if◌then◌else◌, sum_by}
 use Rattle.std.specs.List.{starts_with}
@@ -8,14 +8,13 @@ use Rattle.alma_code.specs.Records.{param_count, run_count, name_byte_count, tex
 use Rattle.alma_object_format.specs.declared.header.Header.{Header}
 use Rattle.alma_object_format.specs.Bytes.{u16_bytes, words_bytes, u16_at, u32_at}
 use Rattle.std.specs.Cmp.Lexicographic.{pointwise}
-use Rattle.alma_object_format.specs.declared.fault.ObjectFault.{ObjectFault}
 use Rattle.alma_object_format.specs.declared.fault.ObjectFault.TheVariants as fault
-use Rattle.alma_object_format.specs.Fault.{or_else}
+use Rattle.alma_base.proofs.FirstFault.{unless_clean, or_clean}
 use Rattle.alma_object_format.specs.Header.{magic, header_of, count_fault, counts_fault, header_fault}
 use Rattle.alma_object_format.specs.Object.{IsObject, counts_of, header_bytes, object_bytes}
 use Rattle.alma_object.proofs.Slices.{words_from}
 use Rattle.alma_object.proofs.Stands.{Stands, AreWords, no_words, more_words, stands_all, stands_first, stands_second, stands_slice}
-use Rattle.alma_object.proofs.Stands.{stands_within, words_length, whole_true, unless_true, le_test, words_stand, u16_stands, u16_length}
+use Rattle.alma_object.proofs.Stands.{stands_within, words_length, whole_true, le_test, words_stand, u16_stands, u16_length}
 
 -- the header that the object of a code has
 abbrev pub header_for : PlainCode → Header
@@ -44,9 +43,6 @@ first_version v (inr e) f = (let two : nat_eq v 2 ≡ true = ap (λ k. nat_eq k 
 known_version : (v : ℕ) → (v ≡ 1) ⊎ (v ≡ 2) → (nat_eq v 1 || nat_eq v 2) ≡ true
 known_version v (inl e) = ap (λ k. nat_eq k 1 || nat_eq k 2) e
 known_version v (inr e) = ap (λ k. nat_eq k 1 || nat_eq k 2) e
-
-pub or_clean : {a rest : Option ObjectFault} → a ≡ None → rest ≡ None → or_else a rest ≡ None
-or_clean {a = a} {rest = rest} e r = ap (λ x. or_else x rest) e ∙ r
 
 or_right : (a b : Bool) → b ≡ true → (a || b) ≡ true
 or_right true b e = refl
@@ -140,7 +136,7 @@ module _ (code : PlainCode) (bytes : List ℕ) (object : IsObject code bytes) wh
   count_clean : (at greatest n : ℕ) → at + 4 ≤ length bytes → u32_at bytes at ≡ n → n ≤ greatest → count_fault bytes at greatest ≡ None
   unfolding count_fault
   count_clean at greatest n le e low =
-      whole_true bytes (at + 4) _ le (unless_true (nat_le (u32_at bytes at) greatest) (fault.BadCount at) None
+      whole_true bytes (at + 4) _ le (unless_clean (nat_le (u32_at bytes at) greatest) (fault.BadCount at) None
       (ap (λ k. nat_le k greatest) e ∙ le_test n greatest low) refl)
 
   lines_clean : (two : Bool) → nat_eq code.version 2 ≡ two
@@ -164,7 +160,7 @@ module _ (code : PlainCode) (bytes : List ℕ) (object : IsObject code bytes) wh
       let c7 = count_at 7 38 refl (omega arith) in
       let c = object.counts in
       or_clean (count_clean 10 262144 (length code.routines) (omega (arith, header_whole)) c0 c.routines)
-      (unless_true (nat_le 1 (u32_at bytes 10)) (fault.BadCount 10) _
+      (unless_clean (nat_le 1 (u32_at bytes 10)) (fault.BadCount 10) _
       (ap (nat_le 1) c0 ∙ le_test 1 (length code.routines) object.table.some)
       (or_clean (count_clean 14 1048576 (length code.globals) (omega (arith, header_whole)) (count_at 1 14 refl (omega arith)) c.globals)
       (or_clean (count_clean 18 1048576 (param_count code) (omega (arith, header_whole)) (count_at 2 18 refl (omega arith)) c.params)
@@ -173,7 +169,7 @@ module _ (code : PlainCode) (bytes : List ℕ) (object : IsObject code bytes) wh
       (or_clean (count_clean 30 1048576 (length code.texts) (omega (arith, header_whole)) c5 c.texts)
       (or_clean (count_clean 34 16777216 (name_byte_count code) (omega (arith, header_whole)) (count_at 6 34 refl (omega arith)) c.names)
       (or_clean (count_clean 38 16777216 (text_byte_count code) (omega (arith, header_whole)) c7 c.text_bytes)
-      (unless_true (nat_eq (u32_at bytes 38) 0 || nat_le 1 (u32_at bytes 30)) (fault.BadCount 38) _
+      (unless_clean (nat_eq (u32_at bytes 38) 0 || nat_le 1 (u32_at bytes 30)) (fault.BadCount 38) _
       (ap (λ k. nat_eq k 0 || nat_le 1 (u32_at bytes 30)) c7 ∙ ap (λ k. nat_eq (text_byte_count code) 0 || nat_le 1 k) c5
       ∙ some_text code.texts)
       (or_clean (count_clean 42 4194304 (length code.instrs) (omega (arith, header_whole)) (count_at 8 42 refl (omega arith)) c.instrs)
@@ -186,8 +182,8 @@ module _ (code : PlainCode) (bytes : List ℕ) (object : IsObject code bytes) wh
       let first = stands_first bytes 0 magic (u16_bytes code.version ++ words_bytes (counts_of code)) header_stands in
       let is : take 8 bytes ≡ magic = stands_slice bytes 0 8 magic refl first in
       or_clean (whole_true bytes 8 _ (omega (arith, header_whole))
-      (unless_true (starts_with nat_eq bytes magic) fault.Magic None (ap (pointwise nat_eq magic) is) refl))
+      (unless_clean (starts_with nat_eq bytes magic) fault.Magic None (ap (pointwise nat_eq magic) is) refl))
       (or_clean (whole_true bytes 10 _ (omega (arith, header_whole))
-      (unless_true (nat_eq (u16_at bytes 8) 1 || nat_eq (u16_at bytes 8) 2) (fault.Version (u16_at bytes 8)) None
+      (unless_clean (nat_eq (u16_at bytes 8) 1 || nat_eq (u16_at bytes 8) 2) (fault.Version (u16_at bytes 8)) None
       (ap (λ v. nat_eq v 1 || nat_eq v 2) version_is ∙ known_version code.version object.version.version) refl))
       counts_clean)

@@ -22,7 +22,8 @@ use Rattle.alma_code.specs.Records.{is_routine_record, is_first_kind, is_first_p
 use Rattle.alma_code.proofs.Tables.{end_inside}
 use Rattle.alma_object_format.specs.declared.fault.ObjectFault.TheVariants as fault
 use Rattle.alma_object_format.specs.Bytes.{i64_bytes, u32_at, i64_at}
-use Rattle.alma_object_format.specs.Fault.{unless}
+use Rattle.alma_base.proofs.FirstFault.{unless_clean, or_clean}
+use Rattle.alma_base.specs.FirstFault.{unless}
 use Rattle.alma_object.specs.Fields.{FitsFields}
 use Rattle.alma_object_format.specs.Header.{routines_at, globals_at, params_at, runs_at, ranges_at, texts_at, name_pool_at, text_pool_at}
 use Rattle.alma_object_format.specs.Header.{instrs_at, lines_at, end_at as end_offset}
@@ -35,7 +36,7 @@ use Rattle.alma_object_format.specs.Walk.{name_count as names_count, has_one_cel
 use Rattle.alma_object_format.specs.Walk.{run_fault}
 use Rattle.alma_object_format.specs.Walk.{routine_runs_fault, range_fault, text_fault, name_fault, pools_fault, instr_fault, line_fault}
 use Rattle.alma_object_format.specs.Walk.{end_fault, sections_fault, object_fault, can_stand}
-use Rattle.alma_object.proofs.Accepted.{header_for, header_is, header_clean, or_clean}
+use Rattle.alma_object.proofs.Accepted.{header_for, header_is, header_clean}
 use Rattle.alma_object.proofs.Ends.{both, end_more, end_within, start_is, is_end_good, end_good, name_end_good, sum_map, end_first}
 use Rattle.alma_object.proofs.Ends.{end_second, section_nth, stands_part, flat_at, byte_stands, all_flat, all_at, name_stands, name_some}
 use Rattle.alma_object.proofs.Fields.{IsRead, field, instr_read}
@@ -45,7 +46,7 @@ use Rattle.alma_object.proofs.Places.{object_length, SectionsStand, sections_sta
 use Rattle.alma_object.proofs.Places.{text_length, param_length, run_length, range_length, line_length}
 use Rattle.alma_object.proofs.Sections.{name_end_routine, name_end_global}
 use Rattle.alma_object.proofs.Stands.{Stands, AreWords, no_words, more_words, stands_first, stands_second, stands_as, stands_within}
-use Rattle.alma_object.proofs.Stands.{stands_nth, i64_stands, i64_length, first_clean, unless_true, whole_true, le_test, lt_test, eq_test}
+use Rattle.alma_object.proofs.Stands.{stands_nth, i64_stands, i64_length, first_clean, whole_true, le_test, lt_test, eq_test}
 use Rattle.alma_object.proofs.Stands.{ne_test}
 
 abbrev pub no_param : CodeParam
@@ -353,21 +354,21 @@ module _ (code : PlainCode) (bytes : List ℕ) (object : IsObject code bytes) (f
       let last : r + 1 ≡ length code.routines → routine_field bytes h 12 r ≡ length code.instrs = λ e.
       (let f : suc r ≡ length code.routines = omega arith in s.code_end ∙ ap (start_at code) f ∙ object.table.last) in
       whole_true bytes (routines_at h + 28 * r + 28) _ s.is_whole
-      (unless_true (is_name_end (start_of (name_end bytes h) r) (name_end bytes h r) h.name_bytes (nat_eq (r + 1) (names_count bytes h)))
+      (unless_clean (is_name_end (start_of (name_end bytes h) r) (name_end bytes h r) h.name_bytes (nat_eq (r + 1) (names_count bytes h)))
       (fault.BadName (routines_at h + 28 * r)) _ (name_is_good r (omega (arith, names_length)))
-      (unless_true (is_end (start_of (params_end bytes h) r) (params_end bytes h r) h.params (nat_eq (r + 1) h.routines))
+      (unless_clean (is_end (start_of (params_end bytes h) r) (params_end bytes h r) h.params (nat_eq (r + 1) h.routines))
       (fault.BadCount (routines_at h + 28 * r + 4)) _
       (end_good (λ (x : PlainRoutine). length x.head.params) code.routines (params_end bytes h) (param_count code) (length code.routines)
       (λ k low. (routine_stands k low).params) refl refl r no_routine lt)
-      (unless_true (is_end (start_of (runs_end bytes h) r) (runs_end bytes h r) h.runs (nat_eq (r + 1) h.routines))
+      (unless_clean (is_end (start_of (runs_end bytes h) r) (runs_end bytes h r) h.runs (nat_eq (r + 1) h.routines))
       (fault.BadCount (routines_at h + 28 * r + 8)) _
       (end_good (λ (x : PlainRoutine). length x.head.runs) code.routines (runs_end bytes h) (run_count code) (length code.routines)
       (λ k low. (routine_stands k low).runs) refl refl r no_routine lt)
-      (unless_true (is_end (start_of (code_end bytes h) r) (code_end bytes h r) h.instrs (nat_eq (r + 1) h.routines))
+      (unless_clean (is_end (start_of (code_end bytes h) r) (code_end bytes h r) h.instrs (nat_eq (r + 1) h.routines))
       (fault.BadCount (routines_at h + 28 * r + 12)) _
       (is_end_good (start_of (code_end bytes h) r) (code_end bytes h r) (length code.instrs) (r + 1) (length code.routines)
       (omega (arith, s.code_end)) (omega (arith, s.code_end)) last)
-      (unless_true (nat_le (routine_field bytes h 24 r) 1) (fault.BadCount (routines_at h + 28 * r + 24)) None
+      (unless_clean (nat_le (routine_field bytes h 24 r) 1) (fault.BadCount (routines_at h + 28 * r + 24)) None
       (ap (λ n. nat_le n 1) s.result ∙ le_test _ 1 (one_bit (head_at code r).has_result)) refl)))))
 
   global_clean : (g : ℕ) → g < length code.globals → global_fault bytes (header_for code) g ≡ None
@@ -375,7 +376,7 @@ module _ (code : PlainCode) (bytes : List ℕ) (object : IsObject code bytes) (f
   global_clean g lt =
       let h = header_for code in
       whole_true bytes (globals_at h + 12 * g + 12) _ (global_stands g lt).is_whole
-      (unless_true (is_name_end (start_of (name_end bytes h) (length code.routines + g)) (name_end bytes h (length code.routines + g))
+      (unless_clean (is_name_end (start_of (name_end bytes h) (length code.routines + g)) (name_end bytes h (length code.routines + g))
       h.name_bytes (nat_eq (length code.routines + g + 1) (names_count bytes h))) (fault.BadName (globals_at h + 12 * g)) None
       (name_is_good (length code.routines + g) (omega (arith, names_length))) refl)
 
@@ -452,11 +453,11 @@ module _ (code : PlainCode) (bytes : List ℕ) (object : IsObject code bytes) (f
       let x = get_or params_all p no_param in
       let at = params_at h + 8 * p in
       whole_true bytes (at + 8) _ s.is_whole
-      (unless_true (nat_le (u32_at bytes at) (if nat_eq h.version 2 then 4 else 3)) (fault.BadCount at) _
+      (unless_clean (nat_le (u32_at bytes at) (if nat_eq h.version 2 then 4 else 3)) (fault.BadCount at) _
       (ap (λ n. nat_le n (if nat_eq h.version 2 then 4 else 3)) s.kind
       ∙ by_version (nat_eq code.version 2) (param_number x.kind) 4 3 (param_any x.kind)
       (λ two. param_first x.kind (all_at (λ (p : CodeParam). is_first_param p.kind) params_all (params_first two) p no_param lt)))
-      (unless_true (not (has_one_cell (u32_at bytes at)) || nat_eq (u32_at bytes (at + 4)) 1)
+      (unless_clean (not (has_one_cell (u32_at bytes at)) || nat_eq (u32_at bytes (at + 4)) 1)
       (fault.BadCount (at + 4)) None
       (ap (λ n. not (has_one_cell n) || nat_eq (u32_at bytes (at + 4)) 1) s.kind
       ∙ ap (λ n. not (has_one_cell (param_number x.kind)) || nat_eq n 1) s.cells
@@ -547,17 +548,17 @@ module _ (code : PlainCode) (bytes : List ℕ) (object : IsObject code bytes) (f
       let at = runs_at h + 12 * k in
       let kind = get_or runs_all k no_run in
       whole_true bytes (at + 12) _ s.is_whole
-      (unless_true (nat_le (u32_at bytes at) (if nat_eq h.version 2 then 3 else 2)) (fault.BadCount at) _
+      (unless_clean (nat_le (u32_at bytes at) (if nat_eq h.version 2 then 3 else 2)) (fault.BadCount at) _
       (ap (λ n. nat_le n (if nat_eq h.version 2 then 3 else 2)) s.kind
       ∙ by_version (nat_eq code.version 2) (slot_number kind.kind) 3 2 (slot_any kind.kind)
       (λ two. slot_first kind.kind (all_at (λ (x : Run). is_first_kind x.kind) runs_all (runs_first two) k no_run lt)))
-      (unless_true (has_length (u32_at bytes at) || nat_eq (u32_at bytes (at + 4)) 0)
+      (unless_clean (has_length (u32_at bytes at) || nat_eq (u32_at bytes (at + 4)) 0)
       (fault.BadCount (at + 4)) _
       (ap (λ n. has_length n || nat_eq (u32_at bytes (at + 4)) 0) s.kind
       ∙ ap (λ n. has_length (slot_number kind.kind) || nat_eq n 0) s.size ∙ size_good kind.kind)
-      (unless_true (first || not (nat_eq (u32_at bytes (at - 12)) (u32_at bytes at)
+      (unless_clean (first || not (nat_eq (u32_at bytes (at - 12)) (u32_at bytes at)
       && nat_eq (u32_at bytes (at - 8)) (u32_at bytes (at + 4)))) (fault.BadCount (at + 4)) _ differs
-      (unless_true (nat_lt (if first then 0 else u32_at bytes (at - 4)) (u32_at bytes (at + 8))) (fault.BadCount (at + 8)) None
+      (unless_clean (nat_lt (if first then 0 else u32_at bytes (at - 4)) (u32_at bytes (at + 8))) (fault.BadCount (at + 8)) None
       (lt_test _ _ (omega (arith, above, s.end, ap (λ (y : Run). y.end) is))) refl))))
 
   run_clean : (r j : ℕ) → r < length code.routines → j < length (head_at code r).runs →
@@ -623,7 +624,7 @@ module _ (code : PlainCode) (bytes : List ℕ) (object : IsObject code bytes) (f
       let s = range_stands k lt in
       let at = ranges_at (header_for code) + 16 * k in
       whole_true bytes (at + 16) _ s.is_whole
-      (unless_true (int_le (i64_at bytes at) (i64_at bytes (at + 8))) (fault.BadCount (at + 8)) None
+      (unless_clean (int_le (i64_at bytes at) (i64_at bytes (at + 8))) (fault.BadCount (at + 8)) None
       (ap (λ n. int_le n (i64_at bytes (at + 8))) s.low ∙ ap (int_le (get_or code.ranges k no_range).low) s.high
       ∙ all_at (λ (t : Range). int_le t.low t.high) code.ranges object.records.ranges k no_range lt) refl)
 
@@ -632,7 +633,7 @@ module _ (code : PlainCode) (bytes : List ℕ) (object : IsObject code bytes) (f
   text_clean t lt =
       let h = header_for code in
       whole_true bytes (texts_at h + 4 * t + 4) _ (text_end_is t lt).0
-      (unless_true (is_end (start_of (text_end bytes h) t) (text_end bytes h t) h.text_bytes (nat_eq (t + 1) h.texts))
+      (unless_clean (is_end (start_of (text_end bytes h) t) (text_end bytes h t) h.text_bytes (nat_eq (t + 1) h.texts))
       (fault.BadCount (texts_at h + 4 * t)) None
       (end_good length code.texts (text_end bytes h) (text_byte_count code) (length code.texts) (λ k low. (text_end_is k low).1) refl refl t
       []
@@ -663,7 +664,7 @@ module _ (code : PlainCode) (bytes : List ℕ) (object : IsObject code bytes) (f
       first_clean (λ i. unless (can_stand (nat_eq i start) (slice_index bytes (name_pool_at h + i))) (fault.BadName (name_pool_at h + i))
       None) start (name_end bytes h n - start)
       (λ i a b. (let j : name_pool_at h + start + (i - start) ≡ name_pool_at h + i = omega arith in
-      unless_true (can_stand (nat_eq i start) (slice_index bytes (name_pool_at h + i))) (fault.BadName (name_pool_at h + i)) None
+      unless_clean (can_stand (nat_eq i start) (slice_index bytes (name_pool_at h + i))) (fault.BadName (name_pool_at h + i)) None
       (ap (λ k. can_stand (nat_eq i start) (slice_index bytes k)) (sym j)
       ∙ ap (can_stand (nat_eq i start)) (byte_stands bytes (name_pool_at h + start) (get_or (names_of code) n []) s (i - start)
       (omega arith))
@@ -686,7 +687,7 @@ module _ (code : PlainCode) (bytes : List ℕ) (object : IsObject code bytes) (f
       let h = header_for code in
       let s = instr_stands k lt in
       whole_true bytes (instrs_at h + 17 * k + 17) _ s.0
-      (unless_true (is_instr h.version bytes (instrs_at h + 17 * k)) (fault.BadOpcode (instrs_at h + 17 * k)) None
+      (unless_clean (is_instr h.version bytes (instrs_at h + 17 * k)) (fault.BadOpcode (instrs_at h + 17 * k)) None
       (s.1.good code.version (λ two. all_at is_first_form code.instrs (first_of two).forms k I.Fail lt)) refl)
 
   line_rises : (k : ℕ) → k < length code.lines
@@ -712,7 +713,7 @@ module _ (code : PlainCode) (bytes : List ℕ) (object : IsObject code bytes) (f
       let at = lines_at h + 8 * k in
       let s = line_stands k lt in
       whole_true bytes (at + 8) _ s.is_whole
-      (unless_true ((nat_eq k 0 || nat_lt (u32_at bytes (at - 8)) (u32_at bytes at)) && nat_lt (u32_at bytes at) h.instrs)
+      (unless_clean ((nat_eq k 0 || nat_lt (u32_at bytes (at - 8)) (u32_at bytes at)) && nat_lt (u32_at bytes at) h.instrs)
       (fault.BadCount at) None
       (both (nat_eq k 0 || nat_lt (u32_at bytes (at - 8)) (u32_at bytes at)) _ (line_rises k lt)
       (lt_test _ _ (omega (arith, s.at_is, line_below k lt)))) refl)
@@ -720,7 +721,7 @@ module _ (code : PlainCode) (bytes : List ℕ) (object : IsObject code bytes) (f
   end_clean : end_fault bytes (header_for code) ≡ None
   end_clean =
       let n = object_length code bytes object in
-      unless_true (nat_le (length bytes) (end_offset (header_for code))) (fault.Trailing (end_offset (header_for code))) None
+      unless_clean (nat_le (length bytes) (end_offset (header_for code))) (fault.Trailing (end_offset (header_for code))) None
       (le_test _ _ (omega arith)) refl
 
   -- no section of an object has a fault

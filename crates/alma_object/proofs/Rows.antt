@@ -16,7 +16,8 @@ use Rattle.alma_code.specs.Records.{is_first_kind, is_first_param, is_first_form
 use Rattle.alma_object_format.specs.declared.fault.ObjectFault.TheVariants as fault
 use Rattle.alma_object_format.specs.declared.header.Header.{Header}
 use Rattle.alma_object_format.specs.Bytes.{u32_at, i64_at}
-use Rattle.alma_object_format.specs.Fault.{unless, first_fault}
+use Rattle.alma_base.specs.FirstFault.{unless}
+use Rattle.alma_object_format.specs.Fault.{first_fault}
 use Rattle.alma_object_format.specs.Fault.{whole as whole_fault}
 use Rattle.alma_object_format.specs.Header.{IsWithin, params_at, runs_at, ranges_at, name_pool_at, text_pool_at, instrs_at, lines_at}
 use Rattle.alma_object_format.specs.Header.{end_at}
@@ -27,7 +28,9 @@ use Rattle.alma_object_format.specs.Walk.{name_fault, instr_fault, line_fault, s
 use Rattle.alma_object_format.specs.Reading.{items, param_kind, slot_kind, param_in, run_in, range_in, line_in, name_in, routine_in}
 use Rattle.alma_object_format.specs.Reading.{global_in, code_in}
 use Rattle.alma_object.proofs.Items.{length_items}
-use Rattle.alma_object_format.proofs.Kept.{unless_none, or_none, whole_none, le_fact, lt_fact, and_parts, first_none, routine_seen}
+use Rattle.alma_base.proofs.FirstFault.{unless_none, or_none}
+use Rattle.alma_object_format.proofs.Kept.{whole_none, le_fact, lt_fact, and_parts, first_none, routine_seen}
+use Rattle.alma_base.proofs.FirstFault.{}
 use Rattle.alma_object_format.proofs.Kept.{name_seen, sections_kept}
 use Rattle.alma_object.proofs.Sections.{param_none, run_none}
 use Rattle.alma_object.proofs.Slices.{IsBytes, can_name}

@@ -1,5 +1,5 @@
 -- What stands in the bytes of an object at an offset.
-use Rattle.std.proofs.Common.{◌≡◌, ℕ, zero, suc, ◌+◌, ◌-◌, ◌*◌, ◌^◌, ◌<◌, ◌≤◌, ℤ, SFits, Bool, true, false, List, [], ◌∷◌, ◌++◌, length}
+use Rattle.std.proofs.Common.{◌≡◌, ℕ, zero, suc, ◌+◌, ◌-◌, ◌*◌, ◌^◌, ◌<◌, ◌≤◌, ℤ, SFits, true, false, List, [], ◌∷◌, ◌++◌, length}
 use Rattle.std.proofs.Common.{get_or, take, drop, refl, sym, ap, subst, ◌∙◌, append_assoc, arith}
 use Rattle.std.specs.Prelude.{slice_range}
 use Rattle.std.specs.List.{flat_map}
@@ -14,7 +14,9 @@ use Rattle.std.specs.Prelude.{nat_eq, nat_lt, nat_le}
 use Rattle.std.proofs.Common.{Option, None}
 use Rattle.alma_object_format.specs.declared.fault.ObjectFault.{ObjectFault}
 use Rattle.alma_object_format.specs.declared.fault.ObjectFault.TheVariants as fault
-use Rattle.alma_object_format.specs.Fault.{unless, whole, or_else, first_fault}
+use Rattle.alma_base.proofs.FirstFault.{unless_clean}
+use Rattle.alma_base.specs.FirstFault.{or_else}
+use Rattle.alma_object_format.specs.Fault.{whole, first_fault}
 use Rattle.alma_object_format.specs.Bytes.{u16_bytes, u32_bytes, i64_bytes, words_bytes, u16_at, u32_at, i64_at}
 use Rattle.alma_object.proofs.Slices.{words_from, long_slice, u32_cells, u16_cells}
 
@@ -122,9 +124,6 @@ first_clean of i zero clean = refl
 first_clean of i (suc n) clean = ap (λ x. or_else x (first_fault of (suc i) n)) (clean i (omega arith) (omega arith))
     ∙ first_clean of (suc i) n (λ k low high. clean k (omega arith) (omega arith))
 
-pub unless_true : (b : Bool) (f : ObjectFault) (rest : Option ObjectFault) → b ≡ true → rest ≡ None → unless b f rest ≡ None
-unless_true b f rest e r = ap (λ x. unless x f rest) e ∙ r
-
 pub le_test : (m n : ℕ) → m ≤ n → nat_le m n ≡ true
 le_test m n le = grind (arith, nat_tests)
 
@@ -138,7 +137,7 @@ pub ne_test : (m n : ℕ) → (m ≡ n → ⊥) → nat_eq m n ≡ false
 ne_test m n e = grind (arith, nat_tests)
 
 pub whole_true : (bytes : List ℕ) (end : ℕ) (rest : Option ObjectFault) → end ≤ length bytes → rest ≡ None → whole bytes end rest ≡ None
-whole_true bytes end rest le r = unless_true (nat_le end (length bytes)) (fault.Cut (length bytes)) rest (le_test _ _ le) r
+whole_true bytes end rest le r = unless_clean (nat_le end (length bytes)) (fault.Cut (length bytes)) rest (le_test _ _ le) r
 
 -- ---- numbers of INTEGER
 

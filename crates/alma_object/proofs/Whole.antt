@@ -21,7 +21,8 @@ use Rattle.alma_object_format.specs.Instrs.{instr_bytes}
 use Rattle.alma_object_format.specs.Object.{section, counts_of, header_bytes, table_bytes, pool_bytes, object_bytes, line_bytes, IsObject}
 use Rattle.alma_object_format.specs.Reading.{items, routine_in, global_in, text_in, code_in}
 use Rattle.alma_object.proofs.Items.{length_items}
-use Rattle.alma_object_format.proofs.Kept.{unless_none, or_none, whole_none}
+use Rattle.alma_base.proofs.FirstFault.{unless_none, or_none}
+use Rattle.alma_object_format.proofs.Kept.{whole_none}
 use Rattle.alma_object.proofs.Rows.{keeps_records, keeps_version}
 use Rattle.alma_object.proofs.Tables.{is_table, keeps_counts}
 use Rattle.alma_object.proofs.Sections.{routines_stand, globals_stand, params_stand, runs_stand, ranges_stand, text_ends_stand, names_stand}

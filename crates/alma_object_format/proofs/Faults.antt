@@ -1,7 +1,8 @@
 -- The first fault of several tests, one test further and at the end.
 use Rattle.std.proofs.Common.{◌≡◌, ℕ, zero, suc, ◌+◌, ◌-◌, ◌<◌, ◌≤◌, Option, None, refl, ap, ◌∙◌, arith}
 use Rattle.alma_object_format.specs.declared.fault.ObjectFault.{ObjectFault}
-use Rattle.alma_object_format.specs.Fault.{or_else, first_fault}
+use Rattle.alma_base.specs.FirstFault.{or_else}
+use Rattle.alma_object_format.specs.Fault.{first_fault}
 
 pub first_more : (of : ℕ → Option ObjectFault) (i n : ℕ) → 0 < n → first_fault of i n ≡ or_else (of i) (first_fault of (i + 1) (n - 1))
 unfolding first_fault

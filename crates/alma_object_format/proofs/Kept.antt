@@ -1,5 +1,5 @@
 -- What the walk has seen where it met no fault.
-use Rattle.std.proofs.Common.{◌≡◌, ℕ, zero, suc, ◌+◌, ◌-◌, ◌*◌, ◌<◌, ◌≤◌, Bool, true, false, ◌&&◌, not, Option, Some, None, List, length}
+use Rattle.std.proofs.Common.{◌≡◌, ℕ, zero, suc, ◌+◌, ◌-◌, ◌*◌, ◌<◌, ◌≤◌, Bool, true, false, ◌&&◌, not, Option, None, List, length}
 use Rattle.std.proofs.Common.{refl, sym, ap, ◌∙◌, subst, arith, inl, inr}
 use Rattle.std.specs.Prelude.{◌||◌, nat_eq, nat_lt, nat_le}
 use Rattle.std.proofs.lemmas.Bool.{cases_lt}
@@ -7,20 +7,13 @@ use Rattle.std.proofs.lemmas.Bool.Decides.{nat_tests}
 use Rattle.alma_object_format.specs.declared.fault.ObjectFault.{ObjectFault}
 use Rattle.alma_object_format.specs.declared.fault.ObjectFault.TheVariants as fault
 use Rattle.alma_object_format.specs.declared.header.Header.{Header}
-use Rattle.alma_object_format.specs.Fault.{unless, whole, or_else, first_fault}
+use Rattle.alma_base.proofs.FirstFault.{unless_none, or_none}
+use Rattle.alma_object_format.specs.Fault.{whole, first_fault}
 use Rattle.alma_object_format.specs.Header.{routines_at, globals_at, texts_at}
 use Rattle.alma_object_format.specs.Walk.{start_of, is_end, is_name_end, params_end, runs_end, code_end, name_end, name_count}
 use Rattle.alma_object_format.specs.Walk.{routine_field, routine_fault, routines_fault, global_fault, globals_fault, text_end, text_fault}
 use Rattle.alma_object_format.specs.Walk.{params_fault, runs_fault, ranges_fault, texts_fault, pools_fault, instrs_fault, lines_fault}
 use Rattle.alma_object_format.specs.Walk.{sections_fault}
-
-pub unless_none : (b : Bool) (f : ObjectFault) (rest : Option ObjectFault) → unless b f rest ≡ None → (b ≡ true) × (rest ≡ None)
-unless_none true f rest e = (refl, e)
-unless_none false f rest e = absurd cc
-
-pub or_none : (a rest : Option ObjectFault) → or_else a rest ≡ None → (a ≡ None) × (rest ≡ None)
-or_none None rest e = (refl, e)
-or_none (Some f) rest e = absurd cc
 
 pub first_none : (of : ℕ → Option ObjectFault) (i n k : ℕ) → first_fault of i n ≡ None → i ≤ k → k < i + n → of k ≡ None
 unfolding first_fault

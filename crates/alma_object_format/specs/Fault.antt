@@ -1,26 +1,12 @@
--- The first fault of several tests, and what is told of a fault.
-use Rattle.std.specs.Prelude.{◌≡◌, ℕ, zero, suc, Bool, true, false, Option, Some, None, Result, Ok, Err, List, length, nat_le, codes}
+-- The first fault of a part or of several items, and what is told of a fault.
+use Rattle.std.specs.Prelude.{ℕ, zero, suc, Bool, Option, Some, None, List, length, nat_le, codes}
+use Rattle.alma_base.specs.FirstFault.{unless, or_else}
 use Rattle.alma_object_format.specs.declared.fault.ObjectFault.{ObjectFault}
 use Rattle.alma_object_format.specs.declared.fault.ObjectFault.TheVariants as fault
-
--- the fault where the test fails, and else what comes after
-abbrev pub unless : (holds : Bool) → ObjectFault → Option ObjectFault → Option ObjectFault
-unless true f rest = rest
-unless false f rest = Some f
 
 -- the part up to an offset is whole, or the bytes are cut
 abbrev pub whole : List ℕ → (end : ℕ) → Option ObjectFault → Option ObjectFault
 whole bytes end rest = unless (nat_le end (length bytes)) (fault.Cut (length bytes)) rest
-
--- the first of two that is there
-abbrev pub or_else : Option ObjectFault → Option ObjectFault → Option ObjectFault
-or_else (Some f) rest = Some f
-or_else None rest = rest
-
--- an answer is an error exactly where there is this fault, and tells it
-abbrev pub TellsFault : {T : Type 0} → Option ObjectFault → Result T ObjectFault → Type 0
-TellsFault found (Ok answer) = found ≡ None
-TellsFault found (Err told) = found ≡ Some told
 
 -- the first fault of n items from one on
 unfoldable pub first_fault : (ℕ → Option ObjectFault) → (item n : ℕ) → Option ObjectFault

@@ -7,7 +7,8 @@ use Rattle.alma_object_format.specs.declared.fault.ObjectFault.{ObjectFault}
 use Rattle.alma_object_format.specs.declared.fault.ObjectFault.TheVariants as fault
 use Rattle.alma_object_format.specs.declared.header.Header.{Header}
 use Rattle.alma_object_format.specs.Bytes.{u16_at, u32_at}
-use Rattle.alma_object_format.specs.Fault.{unless, whole, or_else}
+use Rattle.alma_base.specs.FirstFault.{unless, or_else}
+use Rattle.alma_object_format.specs.Fault.{whole}
 use Rattle.alma_object_format.specs.Lengths.{header_len, first_header_len, routine_len, global_len, param_len, run_len, range_len}
 use Rattle.alma_object_format.specs.Lengths.{text_end_len, instr_len, line_len}
 

@@ -9,7 +9,8 @@ use Rattle.alma_object_format.specs.declared.fault.ObjectFault.TheVariants as fa
 use Rattle.alma_object_format.specs.declared.header.Header.{Header}
 use Rattle.alma_object_format.specs.Bytes.{u32_at, i64_at}
 use Rattle.alma_object_format.specs.Instrs.{is_instr}
-use Rattle.alma_object_format.specs.Fault.{unless, whole, or_else, first_fault}
+use Rattle.alma_base.specs.FirstFault.{unless, or_else}
+use Rattle.alma_object_format.specs.Fault.{whole, first_fault}
 use Rattle.alma_object_format.specs.Header.{header_of, header_fault, routines_at, globals_at, params_at, runs_at, ranges_at, texts_at}
 use Rattle.alma_object_format.specs.Header.{name_pool_at, text_pool_at, instrs_at, lines_at, end_at}
 use Rattle.alma_object_format.specs.Lengths.{routine_len, global_len, param_len, run_len, range_len, text_end_len, instr_len, line_len}

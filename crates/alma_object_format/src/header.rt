@@ -1,7 +1,7 @@
 // The header of an object: its version and its counts.
 ghost use Rattle.std.specs.Prelude.{◌≡◌, ◌+◌, ◌≤◌, ◌<◌, ◌*◌, ◌^◌, length, IfOk, true};
 ghost use Rattle.alma_object_format.specs.Bytes.{u16_at as u16_there, u32_at as u32_there};
-ghost use Rattle.alma_object_format.specs.Fault.{TellsFault, or_else};
+ghost use Rattle.alma_base.specs.FirstFault.{TellsFault, or_else};
 ghost use Rattle.alma_object_format.specs.Header.{IsWithin, header_of, is_version, magic_fault, version_fault, count_fault, counts_fault, header_fault, routines_at, globals_at, params_at, runs_at, ranges_at, texts_at, name_pool_at, text_pool_at, instrs_at, lines_at, end_at};
 
 use crate::bytes::{u16_at, u32_at};

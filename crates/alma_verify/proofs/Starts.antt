@@ -9,7 +9,8 @@ use Rattle.alma_code.specs.declared.cell.SlotKind.{SlotKind}
 use Rattle.alma_code.specs.declared.head.CodeParam.{CodeParam}
 use Rattle.alma_code.specs.Kinds.{is_number}
 use Rattle.alma_code.specs.Layout.{hold_params, holds_param, param_slots}
-use Rattle.alma_code.specs.Rules.{or_else, instr_fault, instrs_fault, routine_fault, routines_fault, last_end, is_main, is_global}
+use Rattle.alma_base.specs.FirstFault.{or_else}
+use Rattle.alma_code.specs.Rules.{instr_fault, instrs_fault, routine_fault, routines_fault, last_end, is_main, is_global}
 use Rattle.alma_code.specs.Rules.{has_position, kind_in}
 use Rattle.std.proofs.lemmas.List.{take_all}
 use Rattle.std.proofs.lemmas.List.Folds.{list_all_more, list_all_at}

@@ -2,7 +2,7 @@
 ghost use Rattle.std.specs.Prelude.{◌≡◌, IfOk};
 ghost use Rattle.alma_code.specs.Plain.{code_of};
 ghost use Rattle.alma_code.specs.Rules.{IsSound};
-ghost use Rattle.alma_object.specs.Fault.{TellsFault};
+ghost use Rattle.alma_base.specs.FirstFault.{TellsFault};
 ghost use Rattle.alma_object.specs.Object.{IsObject};
 ghost use Rattle.alma_object.specs.View.{code_of_view};
 ghost use Rattle.alma_object.specs.Walk.{object_fault};

@@ -6,7 +6,7 @@ ghost use Rattle.alma_code.specs.Records.{KeepsCounts};
 ghost use Rattle.alma_code.specs.declared.instr.Instr.TheVariants as I;
 ghost use Rattle.alma_verify.specs.Seen.{AreFit};
 ghost use Rattle.alma_code.specs.Rules.{IsTable, instr_fault as instr_fault_spec, instrs_fault as instrs_fault_spec, routine_fault as routine_fault_spec, code_fault as code_fault_spec};
-ghost use Rattle.alma_verify.specs.Faults.{TellsFault};
+ghost use Rattle.alma_base.specs.FirstFault.{TellsFault};
 ghost use Rattle.alma_verify.specs.Routines.{HasRoutine};
 
 use crate::heads::{rule_1, rule_2, rule_3};

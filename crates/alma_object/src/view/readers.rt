@@ -3,7 +3,7 @@ ghost use Rattle.std.specs.Prelude.{◌≡◌, ◌+◌, ◌<◌, ◌≤◌, leng
 ghost use Rattle.alma_code.specs.Lines.{line_at as line_at_code};
 ghost use Rattle.alma_code.specs.Plain.{start_at};
 ghost use Rattle.alma_code.specs.Reads.{is_read as is_read_of, code_reads};
-ghost use Rattle.alma_object_format.specs.Fault.{TellsFault};
+ghost use Rattle.alma_base.specs.FirstFault.{TellsFault};
 ghost use Rattle.alma_object_format.specs.Object.{IsObject};
 ghost use Rattle.alma_object_format.specs.Reading.{name_in, text_in, routine_in, global_in};
 ghost use Rattle.alma_object_format.specs.Walk.{object_fault};

@@ -1,7 +1,7 @@
 use Rattle.std.proofs.Common.{sym, ap, ◌∙◌}
 use Rattle.alma_rules.specs.Judgement.{of_value}
 use Rattle.alma_rules.specs.Parts as parts
-use Rattle.alma_check_rules.specs.Views.{headings_in, callee_in, callee_of}
+use Rattle.alma_check_rules.specs.Views.{headings_in, callee_of}
 use Rattle.alma_rules.proofs.Judging.{passed, with_some_fine}
 use Rattle.alma_check_join_expr.proofs.expression.join_callee.Goals as goal
 

@@ -3,7 +3,7 @@ use Rattle.alma_rules.specs.Judgement.{of_value, at_node, with_some}
 use Rattle.alma_rules.specs.Parts as parts
 use Rattle.alma_rules.specs.ExprRules as rules
 use Rattle.alma_rules.specs.Nodes as nodes
-use Rattle.alma_check_rules.specs.Views.{scene_of, typing_of, located_in}
+use Rattle.alma_check_rules.specs.Views.{scene_of, typing_of}
 use Rattle.alma_rules.proofs.Judging.{stops_more, passed, node_stops, node_fine, with_fine, with_some_fine}
 use Rattle.alma_check_join_expr.proofs.expression.join_known.Goals as goal
 

@@ -1,7 +1,7 @@
 use Rattle.std.proofs.Common.{sym, ap, ◌∙◌}
 use Rattle.alma_rules.specs.Judgement.{of_value}
 use Rattle.alma_rules.specs.Parts as parts
-use Rattle.alma_check_rules.specs.Views.{typing_in, typing_of}
+use Rattle.alma_check_rules.specs.Views.{typing_of}
 use Rattle.alma_rules.proofs.Judging.{passed, with_some_fine}
 use Rattle.alma_check_join_expr.proofs.expression.join_value.Goals as goal
 

@@ -1,7 +1,8 @@
 use Rattle.std.proofs.Common.{◌≡◌, ◌+◌, ◌-◌, None}
 use Rattle.std.specs.Prelude.{nat_eq, slice_index}
 use Rattle.alma_object_format.specs.declared.fault.ObjectFault.TheVariants as fault
-use Rattle.alma_object_format.specs.Fault.{unless, first_fault}
+use Rattle.alma_base.specs.FirstFault.{unless}
+use Rattle.alma_object_format.specs.Fault.{first_fault}
 use Rattle.alma_object_format.specs.Header.{name_pool_at}
 use Rattle.alma_object_format.specs.Walk.{can_stand, name_fault}
 use Rattle.alma_object_format.proofs.walk.name_fault.Given as goal

@@ -32,7 +32,7 @@ use Rattle.alma_parse_expr.proofs.Growing.{pushed_turn}
 use Rattle.alma_parse_expr.proofs.Stopped.{stopped}
 use Rattle.alma_parse_expr.proofs.Made.{made_gives, made_or_gives, behind_front, becoming_gives, made_extends, made_or_extends}
 use Rattle.alma_parse_expr.specs.Pieces.{inside_of, number_inside_args}
-use Rattle.alma_parse_expr.proofs.Chain.{plain, closing, matching, ended_behind, in_box}
+use Rattle.alma_parse_expr.proofs.Chain.{closing, matching, ended_behind, in_box}
 use Rattle.alma_parse_expr.proofs.Heads as heads
 use Rattle.alma_parse_expr.proofs.Links.{broken_turn, term_linked, factor_linked, shallower_gives}
 use Rattle.alma_parse_expr.proofs.Lists as lists

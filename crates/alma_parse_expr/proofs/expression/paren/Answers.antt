@@ -8,7 +8,6 @@ use Rattle.alma_tree.proofs.Rows as rows
 use Rattle.alma_tree.proofs.NumberRows as numbers
 use Rattle.alma_grammar.specs.Parts.{one}
 use Rattle.alma_grammar.specs.Parts.{stmts_parts}
-use Rattle.alma_parse_cursor.proofs.Joins.{followed}
 use Rattle.alma_parse_cursor.proofs.Steps.{opened, first}
 use Rattle.alma_parse_expr.proofs.Stopped.{stopped}
 use Rattle.alma_parse_expr.proofs.Made.{made_gives, behind_front}

@@ -1,6 +1,6 @@
 use Rattle.std.proofs.Common.{rules, refl, sym, ap, ◌∙◌, w64}
 use Rattle.std.proofs.lemmas.Int.{to_z-of_z}
-use Rattle.alma_code.specs.Machine.{number, place, store, quiet_step}
+use Rattle.alma_code.specs.Machine.{number, store, quiet_step}
 use Rattle.alma_machine_acts.specs.Rows.{state_of}
 use Rattle.alma_machine_acts.proofs.Words.{makes_is, acts_is, one_slot}
 use Rattle.alma_machine_acts.proofs.registers.Registers.store.Goals as goal
