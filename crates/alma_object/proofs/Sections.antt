@@ -22,7 +22,8 @@ use Rattle.alma_object.proofs.Encoding.{flat_map-map}
 use Rattle.alma_object.proofs.Forms.{instr_spelled}
 use Rattle.alma_object.proofs.Items.{length_items, item_at}
 use Rattle.alma_object_format.proofs.Kept.{first_none, routine_seen, name_seen, text_seen, sections_kept, last_params, last_runs}
-use Rattle.alma_object_format.proofs.Kept.{whole_none, start_last, global_kept, unless_none}
+use Rattle.alma_base.proofs.FirstFault.{unless_none}
+use Rattle.alma_object_format.proofs.Kept.{whole_none, start_last, global_kept}
 use Rattle.alma_object.proofs.Slices.{IsBytes, words_slice, slice_join, section_is, offsets_rise, shifted, u32_slice}
 use Rattle.alma_object.proofs.Spelled.{param_spelled, run_spelled, line_spelled, range_spelled, length_slice, three_words, starts_rise}
 use Rattle.alma_object.proofs.Spelled.{end_is, sum_ends}

@@ -14,7 +14,8 @@ use Rattle.alma_object_format.specs.Walk.{start_of, has_length, param_fault, run
 use Rattle.std.proofs.lemmas.List.FromFn.{sum_by-map-range_with_len_more, take-map-range_with_len}
 use Rattle.alma_object_format.specs.Object.{end_of, param_number, slot_number, slot_size, param_bytes, run_bytes, range_bytes, line_bytes}
 use Rattle.alma_object_format.specs.Reading.{items, param_kind, slot_kind, param_in, run_in, range_in, line_in}
-use Rattle.alma_object_format.proofs.Kept.{unless_none, whole_none, le_fact}
+use Rattle.alma_base.proofs.FirstFault.{unless_none}
+use Rattle.alma_object_format.proofs.Kept.{whole_none, le_fact}
 use Rattle.alma_object.proofs.Slices.{IsBytes, words_slice, slice_join, long_at, long_slice}
 
 -- ---- kinds

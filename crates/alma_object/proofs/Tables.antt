@@ -15,7 +15,8 @@ use Rattle.alma_object_format.specs.Header.{IsWithin, runs_at, end_at}
 use Rattle.alma_object_format.specs.Walk.{start_of, has_length, runs_end, run_fault, sections_fault}
 use Rattle.alma_object_format.specs.Reading.{routine_in, global_in, text_in, run_in, code_in}
 use Rattle.alma_object.proofs.Items.{length_items, item_at}
-use Rattle.alma_object_format.proofs.Kept.{unless_none, whole_none, lt_fact, routine_seen, sections_kept, last_code}
+use Rattle.alma_base.proofs.FirstFault.{unless_none}
+use Rattle.alma_object_format.proofs.Kept.{whole_none, lt_fact, routine_seen, sections_kept, last_code}
 use Rattle.alma_object.proofs.Sections.{run_none, params_total, runs_total, names_total, texts_total}
 use Rattle.alma_object.proofs.Slices.{IsBytes}
 use Rattle.alma_object.proofs.Views.{code_start_is}

@@ -12,7 +12,8 @@ use Rattle.alma_object_format.specs.Walk.{routines_fault, globals_fault, params_
 use Rattle.alma_object_format.specs.Walk.{instrs_fault, lines_fault, sections_fault, object_fault}
 use Rattle.alma_object_format.specs.declared.fault.ObjectFault.{ObjectFault}
 use Rattle.alma_object_format.specs.declared.fault.ObjectFault.TheVariants as fault
-use Rattle.alma_object_format.proofs.Kept.{le_fact, or_none, unless_none, whole_none}
+use Rattle.alma_base.proofs.FirstFault.{or_none, unless_none}
+use Rattle.alma_object_format.proofs.Kept.{le_fact, whole_none}
 use Rattle.alma_plan.specs.Objects.{object_refusal, refusal_by}
 use Rattle.alma_run_laws.proofs.Spelled.{spelled_sound}
 use Rattle.alma_run_laws.specs.Stored.{SpellsCodeOf}
