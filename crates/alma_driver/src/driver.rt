@@ -1,8 +1,7 @@
 // The top call: from the words to the status.
 ghost use Rattle.alma_driver_words.specs.Words.{texts};
 ghost use Rattle.alma_io.specs.Outside.{outside_of};
-ghost use Rattle.alma_driver_outcome.specs.Course.{Answers};
-ghost use Rattle.alma_driver_outcome.specs.Causes.{Causes};
+ghost use Rattle.alma_driver_outcome.specs.Scope.{Answers, Causes};
 
 use alma_base::Status;
 use alma_driver_outcome::report;

@@ -6,7 +6,7 @@ use Rattle.std.specs.Global.{Vec}
 use Rattle.std.proofs.lemmas.Bool.{cases_lt}
 use Rattle.alma_base.specs.Limits.{size_limit, input_limit}
 use Rattle.std.specs.Io.KnownBytes.{Consumes, IsAtEnd}
-use Rattle.alma_io.specs.Whole.{MayHaveMore, LosesAtMost, HasReadCause}
+use Rattle.alma_io.specs.Whole.{MayHaveMore, LosesAtMost, LosesBytes, HasReadCause}
 use Rattle.alma_io.specs.declared.whole.ReadAll.{ReadAll}
 use Rattle.alma_io.specs.declared.whole.ReadAll.TheVariants as reading
 use Rattle.alma_io.specs.Causes.{Rose}
@@ -44,13 +44,15 @@ use Rattle.alma_scan.specs.Places.{line_at, column_at}
 use Rattle.alma_source.specs.Refusal.{IsRefused, IsProgramOf, place_of}
 use Rattle.alma_source.specs.declared.fault.SourceFault.{SourceFault}
 use Rattle.alma_driver_outcome.specs.Ends.{lower_end, words_end, fetch_end, store_end, input_end}
-use Rattle.alma_driver_outcome.specs.Outcome.{Due, due_of, silent, storing, code_due, long_input, InputOutcome, unread}
+use Rattle.alma_plan.specs.Course.{Takes}
+use Rattle.alma_plan.specs.Plan.{Reading, Kept}
+use Rattle.alma_driver_outcome.specs.Outcome.{Due, due_of, silent, storing, code_due, long_input, reading_of, InputOutcome, unread}
 use Rattle.alma_driver_outcome.specs.Outcome.{taken, past_input, ProgramOutcome, ran, too_much_code, CompileOutcome, made}
 use Rattle.alma_driver_outcome.specs.Outcome.{past_size, IsSourceEnd, refused, IsStop, SourceOutcome, stopped, compiled, CheckOutcome}
 use Rattle.alma_driver_outcome.specs.Outcome.{ListOutcome, listed, no_object, CodeOutcome, executed, unsound, ExecOutcome, opened, unopened}
 use Rattle.alma_driver_outcome.specs.Outcome.{FileOutcome, SampleOutcome, summed, RequestOutcome, absent, past_limit, fetched, unfetched}
 use Rattle.alma_driver_outcome.specs.Outcome.{Outcome, bad_word, asks, AskToRead}
-use Rattle.alma_driver_outcome.specs.Course.{GainsPrefix, Goes, Keeps, done, failed, Works, Takes, ReadsWhole, Moves}
+use Rattle.alma_driver_outcome.specs.Course.{GainsPrefix, Goes, Keeps, done, failed, Works, Moves}
 use Rattle.alma_driver_outcome.specs.Course.{MayRead, ReadsOnly, FailsToRead, Runs, Serves, Performs}
 use Rattle.alma_driver_words.specs.declared.words.WordsError.{WordsError}
 use Rattle.alma_driver_words.specs.declared.words.WordsError.TheVariants as words
@@ -88,24 +90,16 @@ goes_starved P a = (inl (appends_none a.written), refl)
 
 -- ---- the input
 
--- where the input is not read it stays
-takes_none : (due : Due) (i : SourceSide) → due.reads ≡ false → Takes due.reads i i
-takes_none due i e = subst (λ (r : Bool). Takes r i i) (sym e) refl
-
--- and nothing is said of its end
-whole_none : (due : Due) (i : SourceSide) → due.reads ≡ false → ReadsWhole due i i
-whole_none due i e = λ reads long. absurd (cc (e, reads))
-
 -- what is due leaves the input
-moves_none : (P : Due → Type 0) (i : SourceSide) (due : Due) → P due → due.reads ≡ false → Moves P i i due
-moves_none P i due o e = (o, takes_none due i e, whole_none due i e)
+moves_none : (P : Due → Type 0) (i : SourceSide) (due : Due) → P due → due.reading ≡ Kept → Moves P i i due
+moves_none P i due o e = (o, subst (λ (r : Reading). Takes r i i) (sym e) refl)
 
 -- as an end without a print does
 moves_silent : (P : Due → Type 0) (i : SourceSide) (end : End) → P (silent end) → Moves P i i (silent end)
 moves_silent P i end o = moves_none P i (silent end) o refl
 
 -- a call that leaves the input
-pub runs_still : (P : Due → Type 0) → ((due : Due) → P due → due.reads ≡ false) → (i : SourceSide) (a b : SinkSide) (end : End)
+pub runs_still : (P : Due → Type 0) → ((due : Due) → P due → due.reading ≡ Kept) → (i : SourceSide) (a b : SinkSide) (end : End)
     → Goes P a b end → Runs P i i a b end
 runs_still P none i a b end g = inr (inl refl, goes_map P (Moves P i i) (λ due o. moves_none P i due o (none due o)) a b end g)
 
@@ -126,7 +120,7 @@ reads_map P Q f i j (inl e) = inl e
 reads_map P Q f i j (inr h) = inr (may_read_map P Q f h.0, h.1)
 
 moves_map : (P Q : Due → Type 0) → ((due : Due) → P due → Q due) → (i j : SourceSide) (due : Due) → Moves P i j due → Moves Q i j due
-moves_map P Q f i j due m = (f due m.0, m.1, m.2)
+moves_map P Q f i j due m = (f due m.0, m.1)
 
 -- a run inside another
 pub runs_map : (P Q : Due → Type 0) → ((due : Due) → P due → Q due) → (i j : SourceSide) (a b : SinkSide) (end : End) → Runs P i j a b end
@@ -141,7 +135,7 @@ runs_unread code steps showing i a b end quiet g =
     inr (
       inl refl,
       goes_map (IsDue code [] steps showing) (Moves (InputOutcome i.left code steps showing) i i)
-          (λ due e. moves_none (InputOutcome i.left code steps showing) i due (unread quiet e) (ap (λ (d : Due). d.reads) e ∙ quiet)) a b
+          (λ due e. moves_none (InputOutcome i.left code steps showing) i due (unread quiet e) (ap (λ (d : Due). d.reading) e ∙ ap reading_of quiet)) a b
           end g,
     )
 
@@ -154,12 +148,12 @@ was_left (Some xs) (Some ys) bytes c e = c ∙ ap (λ z. bytes ++ z) e ∙ appen
 -- code that reads has an outcome that reads
 reading_due : (left : Option (List ℕ)) (code : PlainCode) (steps : ℕ) (showing : Showing) → code_reads code ≡ true
     → MayRead (InputOutcome left code steps showing)
-reading_due None code steps showing q = (code_due code [] steps showing, taken [] q tt (omega arith) refl, q)
+reading_due None code steps showing q = (code_due code [] steps showing, taken [] q tt (omega arith) refl, inl (ap reading_of q))
 reading_due (Some bytes) code steps showing q = by (cases_lt input_limit (length bytes))
   where
     by : (input_limit < length bytes) ⊎ (length bytes ≤ input_limit) → MayRead (InputOutcome (Some bytes) code steps showing)
-    by (inl past) = (long_input, past_input q past refl, refl)
-    by (inr short) = (code_due code bytes steps showing, taken bytes q refl short refl, q)
+    by (inl past) = (long_input, past_input q past refl, inr refl)
+    by (inr short) = (code_due code bytes steps showing, taken bytes q refl short refl, inl (ap reading_of q))
 
 -- code that reads was run on all that was left
 pub runs_taken : (code : PlainCode) (steps : ℕ) (showing : Showing) (i j : SourceSide) (bytes : List ℕ) (a b : SinkSide) (end : End)
@@ -174,8 +168,7 @@ runs_taken code steps showing i j bytes a b end q c e short same g =
       goes_map (IsDue code bytes steps showing) (Moves (InputOutcome i.left code steps showing) i j)
           (λ due d. (
             taken bytes q left short d,
-            subst (λ (r : Bool). Takes r i j) (sym (ap (λ (x : Due). x.reads) d ∙ q)) (loses, same),
-            λ reads long. (bytes, c, e),
+            subst (λ (r : Reading). Takes r i j) (sym (ap (λ (x : Due). x.reading) d ∙ ap reading_of q)) ((bytes, c, e, short), same),
           )) a b end g,
     )
 
@@ -188,15 +181,16 @@ pub runs_lost : (code : PlainCode) (steps : ℕ) (showing : Showing) (i j : Sour
     → code_reads code ≡ true
     → LosesAtMost i.left j.left (input_limit + 1) → HasReadCause i.faults j.faults (Err error)
     → (not_read error ≡ not_read reading.TooLong → MayHaveMore i.left input_limit)
+    → (not_read error ≡ not_read reading.TooLong → LosesBytes i.left j.left (input_limit + 1))
     → Runs (InputOutcome i.left code steps showing) i j a a (input_end error)
-runs_lost code steps showing i j reading.Fault a q loses cause more =
+runs_lost code steps showing i j reading.Fault a q loses cause more past =
     inl (refl, reading_due i.left code steps showing q, loses, (cause.0, cause.1), gains_none a)
-runs_lost code steps showing i j reading.TooLong a q loses cause more =
+runs_lost code steps showing i j reading.TooLong a q loses cause more past =
     inr (
       inr (reading_due i.left code steps showing q, (loses, cause)),
-      (long_input, refl, (past_input q (more refl) refl, (loses, cause), λ reads long. absurd (long refl)), gains_none a),
+      (long_input, refl, (past_input q (more refl) refl, (past refl, cause)), gains_none a),
     )
-runs_lost code steps showing i j reading.Memory a q loses cause more =
+runs_lost code steps showing i j reading.Memory a q loses cause more past =
     inr (inr (reading_due i.left code steps showing q, (loses, cause)), goes_starved (Moves (InputOutcome i.left code steps showing) i j) a)
 
 -- ---- sources
@@ -485,7 +479,7 @@ serves_run P none f i j a b end (inr h) =
     inr (h.0, inl (files_same f, goes_map (Moves P i j) (Keeps (Moves P i j)) (λ due m. (m, none due m.0)) a b end h.1))
 
 -- a course that leaves the input
-pub serves_still : (P : Due → Type 0) → ((due : Due) → P due → due.reads ≡ false)
+pub serves_still : (P : Due → Type 0) → ((due : Due) → P due → due.reading ≡ Kept)
     → (f f' : FilesSide) (i : SourceSide) (a b : SinkSide) (end : End)
     → Works P f f' a b end → Serves P f f' i i a b end
 serves_still P none f f' i a b end w = inr (inl refl, works_map P (Moves P i i) (λ due o. moves_none P i due o (none due o)) f f' a b end w)
@@ -511,16 +505,16 @@ pub list_keeps : (bytes : List ℕ) (due : Due) → ListOutcome bytes due → du
 list_keeps bytes due (listed clean is e) = ap (λ (d : Due). d.stored) e
 list_keeps bytes due (no_object fault is e) = ap (λ (d : Due). d.stored) e
 
-list_still : (bytes : List ℕ) (due : Due) → ListOutcome bytes due → due.reads ≡ false
-list_still bytes due (listed clean is e) = ap (λ (d : Due). d.reads) e
-list_still bytes due (no_object fault is e) = ap (λ (d : Due). d.reads) e
+list_still : (bytes : List ℕ) (due : Due) → ListOutcome bytes due → due.reading ≡ Kept
+list_still bytes due (listed clean is e) = ap (λ (d : Due). d.reading) e
+list_still bytes due (no_object fault is e) = ap (λ (d : Due). d.reading) e
 
-program_still : (p : Program) (object : List ℕ) (due : Due) → CompileOutcome p object due → due.reads ≡ false
-program_still p object due (made code bytes size is_code is fits e) = ap (λ (d : Due). d.reads) e
-program_still p object due (past_size size e) = ap (λ (d : Due). d.reads) e
+program_still : (p : Program) (object : List ℕ) (due : Due) → CompileOutcome p object due → due.reading ≡ Kept
+program_still p object due (made code bytes size is_code is fits e) = ap (λ (d : Due). d.reading) e
+program_still p object due (past_size size e) = ap (λ (d : Due). d.reading) e
 
-compile_still : (source object : List ℕ) (due : Due) → SourceOutcome source (λ p. CompileOutcome p object) due → due.reads ≡ false
-compile_still source object due (stopped end h e) = ap (λ (d : Due). d.reads) e
+compile_still : (source object : List ℕ) (due : Due) → SourceOutcome source (λ p. CompileOutcome p object) due → due.reading ≡ Kept
+compile_still source object due (stopped end h e) = ap (λ (d : Due). d.reading) e
 compile_still source object due (compiled p is o) = program_still p object due o
 
 -- running an object stores nothing
@@ -560,8 +554,8 @@ serves_compile source object f f' i a b end w =
 pub sample_keeps : (lines : ℕ) (due : Due) → SampleOutcome lines due → due.stored ≡ None
 sample_keeps lines due (summed printed status o e) = ap (λ (d : Due). d.stored) e
 
-sample_still : (lines : ℕ) (due : Due) → SampleOutcome lines due → due.reads ≡ false
-sample_still lines due (summed printed status o e) = ap (λ (d : Due). d.reads) e
+sample_still : (lines : ℕ) (due : Due) → SampleOutcome lines due → due.reading ≡ Kept
+sample_still lines due (summed printed status o e) = ap (λ (d : Due). d.reading) e
 
 pub serves_sample : (lines : ℕ) (f : FilesSide) (i : SourceSide) (a b : SinkSide) (end : End) → Goes (SampleOutcome lines) a b end
     → Serves (SampleOutcome lines) f f i i a b end
@@ -573,9 +567,9 @@ pub check_keeps : (source : List ℕ) (due : Due) → SourceOutcome source Check
 check_keeps source due (stopped end h e) = ap (λ (d : Due). d.stored) e
 check_keeps source due (compiled p is o) = ap (λ (d : Due). d.stored) o
 
-check_still : (source : List ℕ) (due : Due) → SourceOutcome source CheckOutcome due → due.reads ≡ false
-check_still source due (stopped end h e) = ap (λ (d : Due). d.reads) e
-check_still source due (compiled p is o) = ap (λ (d : Due). d.reads) o
+check_still : (source : List ℕ) (due : Due) → SourceOutcome source CheckOutcome due → due.reading ≡ Kept
+check_still source due (stopped end h e) = ap (λ (d : Due). d.reading) e
+check_still source due (compiled p is o) = ap (λ (d : Due). d.reading) o
 
 pub serves_check : (source : List ℕ) (f : FilesSide) (i : SourceSide) (a : SinkSide) (end : End)
     → Goes (SourceOutcome source CheckOutcome) a a end

@@ -20,19 +20,23 @@ use Rattle.alma_driver_words.proofs.WordLemmas.{one_request}
 use Rattle.alma_driver_outcome.specs.Words.{read_by}
 use Rattle.alma_driver_outcome.specs.Showing.{Prints}
 use Rattle.alma_io.specs.Outside.{Outside, IsUndisturbed, MayBeLeft, Gains}
-use Rattle.alma_driver_outcome.specs.Ends.{status_of, text_of, counts_text}
+use Rattle.alma_plan.specs.Causes.{IsWhole}
+use Rattle.alma_plan.specs.Course.{Takes}
+use Rattle.alma_plan.specs.Plan.{Reading}
+use Rattle.alma_plan.specs.Plan as plan
+use Rattle.alma_plan.proofs.UndisturbedLemmas.{call_is_whole}
+use Rattle.alma_driver_outcome.specs.Ends.{program, status_of, text_of, counts_text}
 use Rattle.alma_source.specs.Refusal.{IsProgramOf, place_of}
 use Rattle.alma_driver_outcome.specs.Outcome.{Due, silent, code_due, InputOutcome, unread, taken, past_input, ProgramOutcome}
 use Rattle.alma_driver_outcome.specs.Outcome.{ran, too_much_code, told_end, MeansOn, IsSourceEnd, refused, SourceOutcome, stopped}
 use Rattle.alma_driver_outcome.specs.Outcome.{compiled, RequestOutcome, absent, past_limit, fetched, unfetched, Outcome, bad_word, asks}
 use Rattle.alma_driver_outcome.specs.Outcome.{Lacks}
-use Rattle.alma_driver_outcome.specs.Causes.{Causes, FetchFailed, InputFailed}
+use Rattle.alma_driver_outcome.specs.Scope.{Causes, MayCome, scope_of}
 use Rattle.alma_driver_outcome.specs.Headline.{AsksToRun, ShowsResult, RunEnds, refuses, too_large, ended, ran_out}
 use Rattle.alma_driver_outcome.specs.Headline.{meant_status, meant_text}
 use Rattle.alma_driver_outcome.specs.declared.end.Counts.{Counts}
 use Rattle.alma_driver_outcome.specs.declared.end.End.{End}
 use Rattle.alma_driver_outcome.specs.declared.end.End.TheVariants.{Refused, StepsOut, TooMuchCode}
-use Rattle.alma_driver_outcome.proofs.CauseLemmas.{IsWhole}
 use Rattle.alma_driver_outcome.proofs.RunLemmas.{code_means}
 use Rattle.alma_source.proofs.RefusalLemmas.{one_refusal, one_program, refused_no_program}
 use Rattle.alma_driver_outcome.proofs.Unread.{due_alike}
@@ -63,6 +67,13 @@ record IsShown (words : List (List ℕ)) (before after : Outside) (status : ℕ)
   status_is : status ≡ status_of due.end
   out : Gains before.out after.out due.out
   err : Gains before.err after.err (text_of (file_of words) due.end)
+
+-- all that is due came
+pub record CameWhole (words : List (List ℕ)) (before after : Outside) (status : ℕ) : Type 0 where
+  pub due : Due
+  pub outcome : Outcome words before.files.told before.input.left due
+  shown : IsShown words before after status due
+  pub takes : Takes due.reading before.input after.input
 
 -- the end that is told of an end of the meaning has the status of that, and its text where it is not cut off
 told_status : (end : events.End) (counts : Option Counts) → status_of (told_end end counts) ≡ meant_status end
@@ -176,37 +187,38 @@ not_lacking words before source input steps stats a l =
 
 -- ---- the headline
 
--- nothing that reads failed
-nothing_unread : (words : List (List ℕ)) (source input : List ℕ) (steps : ℕ) (stats : Bool) (before after : Outside) (status : ℕ)
-    → AsksToRun words before source input steps stats → IsUndisturbed before after status
-    → FetchFailed words before after ⊎ (InputFailed words before after ⊎ Lacks words before.files.told) → ⊥
-nothing_unread words source input steps stats before after status a u (inl failed) = u.no_read_failed (inl (failed.0, failed.2))
-nothing_unread words source input steps stats before after status a u (inr (inl failed)) = u.no_read_failed (inr failed.0)
-nothing_unread words source input steps stats before after status a u (inr (inr lacks)) =
-    not_lacking words before source input steps stats a lacks
-
--- what a run shows where all that is due came
-ends_whole : (words : List (List ℕ)) (source input : List ℕ) (steps : ℕ) (stats : Bool) (before after : Outside) (status : ℕ)
-    → AsksToRun words before source input steps stats → IsWhole words before after status
-    → RunEnds words source input steps stats before after status
-ends_whole words source input steps stats before after status a w =
-    ends_of words source input steps stats before after status w.0 a (record { status_is = w.2; out = w.3; err = w.4 })
-    (words_run words before source input steps stats w.0 a w.1)
+-- what is due by what may come
+came : (words : List (List ℕ)) (before after : Outside) (status : ℕ) → IsWhole (MayCome words before) before after status
+    → CameWhole words before after status
+came words before after status w =
+    let due = w.2.0 in
+    let shown = w.2.3 in
+    record {
+      due = due;
+      outcome = w.2.1;
+      shown = record {
+        status_is = w.3 ∙ ap (λ (d : plan.Due). d.end.status) shown;
+        out = subst (λ (d : plan.Due). Gains before.out after.out d.out) shown w.4;
+        err = subst (λ (d : plan.Due). Gains before.err after.err d.end.text) shown w.5;
+      };
+      takes = subst (λ (r : Reading). Takes r before.input after.input) w.2.2 w.7;
+    }
 
 -- all that is due from a run came where nothing failed
 pub whole_run : (words : List (List ℕ)) (source input : List ℕ) (steps : ℕ) (stats : Bool) (before after : Outside) (status : ℕ)
     → AsksToRun words before source input steps stats → Causes words before after status → IsUndisturbed before after status
-    → IsWhole words before after status
+    → CameWhole words before after status
 whole_run words source input steps stats before after status a c u =
-    c.whole (λ e. nothing_unread words source input steps stats before after status a u (c.read_fault e))
-    (λ e. u.no_write_failed (c.write_fault e)) u.memory
+    came words before after status
+    (call_is_whole program (scope_of words before) before after status c u (not_lacking words before source input steps stats a))
 
 -- what a run shows where nothing failed
 pub run_ends : (words : List (List ℕ)) (source input : List ℕ) (steps : ℕ) (stats : Bool) (before after : Outside) (status : ℕ)
     → AsksToRun words before source input steps stats → Causes words before after status → IsUndisturbed before after status
     → RunEnds words source input steps stats before after status
 run_ends words source input steps stats before after status a c u =
-    ends_whole words source input steps stats before after status a (whole_run words source input steps stats before after status a c u)
+    let w = whole_run words source input steps stats before after status a c u in
+    ends_of words source input steps stats before after status w.due a w.shown (words_run words before source input steps stats w.due a w.outcome)
 
 -- ---- enough steps
 

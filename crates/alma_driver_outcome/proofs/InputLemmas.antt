@@ -8,34 +8,20 @@ use Rattle.alma_ir.specs.Tree.{Program}
 use Rattle.alma_lower_sound.specs.Reads.{program_reads}
 use Rattle.alma_code.specs.Plain.{PlainCode}
 use Rattle.alma_code.specs.Reads.{code_reads}
-use Rattle.alma_code.specs.Machine.{Mode, Going, Failing, Ended, Stuck}
-use Rattle.alma_code.specs.declared.step.End.TheVariants as code_end
-use Rattle.alma_lower_implements.specs.Implements.{state_after, line_in}
 use Rattle.alma_run_laws.specs.Shown.{size_of}
-use Rattle.alma_driver_outcome.specs.declared.end.Counts.{Counts}
 use Rattle.alma_driver_outcome.specs.declared.end.End.{End}
-use Rattle.alma_driver_outcome.specs.declared.end.End.TheVariants.{TooLong}
-use Rattle.alma_driver_outcome.specs.Ends.{mode_end, counts_in}
 use Rattle.alma_io.specs.Outside.{Outside, IsUndisturbed}
 use Rattle.alma_driver_outcome.specs.Showing.{Prints}
 use Rattle.alma_source.specs.Refusal.{IsProgramOf}
-use Rattle.alma_driver_outcome.specs.Outcome.{Due, InputOutcome, unread, taken, past_input, ProgramOutcome, ran, too_much_code}
+use Rattle.alma_driver_outcome.specs.Outcome.{Due, Outcome, reading_of, InputOutcome, unread, taken, past_input, ProgramOutcome, ran}
+use Rattle.alma_driver_outcome.specs.Outcome.{too_much_code}
 use Rattle.alma_driver_outcome.specs.Outcome.{IsSourceEnd, refused, SourceOutcome, stopped, compiled}
-use Rattle.alma_driver_outcome.specs.Course.{Takes, IsReadWhole}
+use Rattle.alma_plan.specs.Course.{Takes}
+use Rattle.alma_plan.specs.Plan.{Reading, Finished}
 use Rattle.alma_source.proofs.RefusalLemmas.{one_program, refused_no_program}
-use Rattle.alma_driver_outcome.specs.Causes.{Causes}
+use Rattle.alma_driver_outcome.specs.Scope.{Causes}
 use Rattle.alma_driver_outcome.specs.Headline.{AsksToRun, IsInputLeft}
-use Rattle.alma_driver_outcome.proofs.CauseLemmas.{IsWhole}
 use Rattle.alma_driver_outcome.proofs.HeadlineLemmas.{words_run, whole_run}
-
--- no run ends in an input that is too long
-never_long : (m : Mode) (line : ℕ) (counts : Option Counts) → mode_end m line counts ≡ TooLong → ⊥
-never_long (Ended code_end.Succeeded) line counts e = cc e
-never_long (Ended code_end.Failed) line counts e = cc e
-never_long (Ended (code_end.Fault fault)) line counts e = cc e
-never_long Going line counts e = cc e
-never_long Failing line counts e = cc e
-never_long Stuck line counts e = cc e
 
 -- nothing is left of what is told and was read to its end
 all_read : (input bytes : List ℕ) (old new : Option (List ℕ)) → old ≡ Some input → Consumes old new bytes → IsAtEnd new → new ≡ Some []
@@ -43,40 +29,39 @@ all_read input bytes None new told c d = cc told
 all_read input bytes (Some xs) None told c d = absurd c
 all_read input bytes (Some xs) (Some ys) told c d = ap Some d
 
--- what becomes of the input where all that is due came
-input_left : (words : List (List ℕ)) (source input : List ℕ) (steps : ℕ) (stats : Bool) (before after : Outside) (status : ℕ) (p : Program)
-    → AsksToRun words before source input steps stats → IsWhole words before after status → IsProgramOf source p → size_of p ≤ size_limit
+-- what becomes of the input where this is due and came
+input_left : (words : List (List ℕ)) (source input : List ℕ) (steps : ℕ) (stats : Bool) (before after : Outside) (due : Due) (p : Program)
+    → AsksToRun words before source input steps stats → Outcome words before.files.told before.input.left due
+    → Takes due.reading before.input after.input → IsProgramOf source p → size_of p ≤ size_limit
     → IsInputLeft (program_reads p) before.input after.input
-input_left words source input steps stats before after status p a w is small =
-    by_source (words_run words before source input steps stats w.0 a w.1)
+input_left words source input steps stats before after due p a o takes is small =
+    by_source (words_run words before source input steps stats due a o)
   where
     by_end : (end : End) → IsSourceEnd source end → IsInputLeft (program_reads p) before.input after.input
     by_end end (refused fault offset r e) = absurd (refused_no_program source fault offset p r is)
 
     by_input : (code : PlainCode) → (code_reads code ≡ true → before.input.left ≡ Some input)
-        → InputOutcome before.input.left code steps (Prints stats) w.0 → IsInputLeft (code_reads code) before.input after.input
+        → InputOutcome before.input.left code steps (Prints stats) due → IsInputLeft (code_reads code) before.input after.input
     by_input code told (unread quiet e) =
         subst (λ (r : Bool). IsInputLeft r before.input after.input) (sym quiet)
-        (subst (λ (r : Bool). Takes r before.input after.input) (ap (λ (d : Due). d.reads) e ∙ quiet) w.6)
+        (subst (λ (r : Reading). Takes r before.input after.input) (ap (λ (d : Due). d.reading) e ∙ ap reading_of quiet) takes)
     by_input code told (taken other q l short e) =
-        let s = state_after code other steps in
-        let all : IsReadWhole before.input after.input =
-        w.7 (ap (λ (d : Due). d.reads) e ∙ q) (λ long. never_long s.mode (line_in code s) (counts_in stats s)
-        (sym (ap (λ (d : Due). d.end) e) ∙ long)) in
+        let all : Takes Finished before.input after.input =
+        subst (λ (r : Reading). Takes r before.input after.input) (ap (λ (d : Due). d.reading) e ∙ ap reading_of q) takes in
         subst (λ (r : Bool). IsInputLeft r before.input after.input) (sym q)
-        (all_read input all.0 before.input.left after.input.left (told q) all.1 all.2)
+        (all_read input all.0.0 before.input.left after.input.left (told q) all.0.1 all.0.2)
     by_input code told (past_input q more e) =
         let past : MayHaveMore (Some input) input_limit = subst (λ (o : Option (List ℕ)). MayHaveMore o input_limit) (told q) more in
         absurd (omega (arith, a.input_short, past))
 
-    by_program : (q : Program) → IsProgramOf source q → ProgramOutcome before.input.left q steps (Prints stats) w.0
+    by_program : (q : Program) → IsProgramOf source q → ProgramOutcome before.input.left q steps (Prints stats) due
         → IsInputLeft (program_reads q) before.input after.input
     by_program q isq (ran code size is_code o) =
         subst (λ (r : Bool). IsInputLeft r before.input after.input) is_code.reads
         (by_input code (λ r. a.left q isq (sym is_code.reads ∙ r)) o)
     by_program q isq (too_much_code size e) = absurd (omega (arith, size, small, ap size_of (one_program source q p isq is)))
 
-    by_source : SourceOutcome source (λ q. ProgramOutcome before.input.left q steps (Prints stats)) w.0
+    by_source : SourceOutcome source (λ q. ProgramOutcome before.input.left q steps (Prints stats)) due
         → IsInputLeft (program_reads p) before.input after.input
     by_source (stopped end h e) = by_end end h
     by_source (compiled q isq o) =
@@ -89,5 +74,5 @@ pub input_read : (words : List (List ℕ)) (source input : List ℕ) (steps : �
     → IsProgramOf source p
     → size_of p ≤ size_limit → IsInputLeft (program_reads p) before.input after.input
 input_read words source input steps stats before after status p a c u is small =
-    input_left words source input steps stats before after status p a (whole_run words source input steps stats before after status a c u)
-    is small
+    let w = whole_run words source input steps stats before after status a c u in
+    input_left words source input steps stats before after w.due p a w.outcome w.takes is small

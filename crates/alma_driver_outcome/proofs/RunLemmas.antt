@@ -19,7 +19,7 @@ use Rattle.alma_run_laws.proofs.Meant.{code_shows}
 use Rattle.alma_io.specs.Sides.{SinkSide}
 use Rattle.alma_driver_outcome.specs.declared.end.Counts.{Counts}
 use Rattle.alma_driver_outcome.specs.Ends.{mode_end, run_end, counts_in}
-use Rattle.alma_driver_outcome.specs.Outcome.{Due, code_end, code_due, InputOutcome, unread, taken, past_input, AreCounts, told_end}
+use Rattle.alma_driver_outcome.specs.Outcome.{Due, code_end, code_due, reading_of, InputOutcome, unread, taken, past_input, AreCounts, told_end}
 use Rattle.alma_driver_outcome.specs.Outcome.{MeansOn, ProgramOutcome, ran, too_much_code, IsTaken, Meant, meant_on, too_long, too_large}
 use Rattle.alma_driver_outcome.specs.Outcome.{TraceMeant, traced_on, trace_too_long, trace_too_large}
 use Rattle.alma_driver_outcome.specs.Showing.{Showing, Prints, Traces}
@@ -137,20 +137,21 @@ code_means p code input steps stats implements short =
 -- a run on this input is what the program means on it
 means_due : (left : Option (List ℕ)) (p : Program) (code : PlainCode) (input : List ℕ) (steps : ℕ) (stats : Bool) (due : Due)
     → size_of p ≤ size_limit
-    → Implements code p → code_reads code ≡ program_reads p → length input ≤ input_limit → IsTaken left (code_reads code) input
+    → Implements code p → code_reads code ≡ program_reads p → length input ≤ input_limit → IsTaken left (program_reads p) input
     → due ≡ code_due code input steps (Prints stats)
     → Meant left p steps stats due
 means_due left p code input steps stats due size implements reads short is e =
-    subst (Meant left p steps stats) (sym e) (meant_on input size reads is (code_means p code input steps stats implements short))
+    subst (Meant left p steps stats) (sym e) (meant_on input size (ap reading_of reads) is (code_means p code input steps stats implements short))
 
 input_means : (left : Option (List ℕ)) (p : Program) (code : PlainCode) (steps : ℕ) (stats : Bool) (due : Due) → size_of p ≤ size_limit
     → Implements code p → code_reads code ≡ program_reads p
     → InputOutcome left code steps (Prints stats) due → Meant left p steps stats due
 input_means left p code steps stats due size implements reads (unread q e) =
-    means_due left p code [] steps stats due size implements reads (omega arith) (subst (λ (r : Bool). IsTaken left r []) (sym q) refl) e
+    means_due left p code [] steps stats due size implements reads (omega arith)
+    (subst (λ (r : Bool). IsTaken left r []) (sym q ∙ reads) refl) e
 input_means left p code steps stats due size implements reads (taken input q l short e) =
     means_due left p code input steps stats due size implements reads short
-    (subst (λ (r : Bool). IsTaken left r input) (sym q) (l, short)) e
+    (subst (λ (r : Bool). IsTaken left r input) (sym q ∙ reads) (l, short)) e
 input_means left p code steps stats due size implements reads (past_input q more e) = too_long size more e
 
 -- what a run of a program comes to is what the program means
@@ -165,13 +166,13 @@ outcome_means left p steps stats due (too_much_code size e) = too_large size e
 -- it ends on this input as the program does on it
 traced_due : (left : Option (List ℕ)) (p : Program) (code : PlainCode) (input : List ℕ) (steps : ℕ) (names : List (List ℕ)) (due : Due)
     → size_of p ≤ size_limit
-    → Implements code p → code_reads code ≡ program_reads p → length input ≤ input_limit → IsTaken left (code_reads code) input
+    → Implements code p → code_reads code ≡ program_reads p → length input ≤ input_limit → IsTaken left (program_reads p) input
     → due ≡ code_due code input steps (Traces names)
     → TraceMeant left p steps due
 traced_due left p code input steps names due size implements reads short is e =
     let s = state_after code input steps in
     subst (TraceMeant left p steps) (sym e)
-    (traced_on input (printed_by code input steps) (shown_end s.mode (line_in code s)) size reads is
+    (traced_on input (printed_by code input steps) (shown_end s.mode (line_in code s)) size (ap reading_of reads) is
     (code_shows code p input steps implements short) (told_is s.mode (line_in code s) None))
 
 input_traced : (left : Option (List ℕ)) (p : Program) (code : PlainCode) (steps : ℕ) (names : List (List ℕ)) (due : Due)
@@ -179,10 +180,11 @@ input_traced : (left : Option (List ℕ)) (p : Program) (code : PlainCode) (step
     → Implements code p → code_reads code ≡ program_reads p
     → InputOutcome left code steps (Traces names) due → TraceMeant left p steps due
 input_traced left p code steps names due size implements reads (unread q e) =
-    traced_due left p code [] steps names due size implements reads (omega arith) (subst (λ (r : Bool). IsTaken left r []) (sym q) refl) e
+    traced_due left p code [] steps names due size implements reads (omega arith)
+    (subst (λ (r : Bool). IsTaken left r []) (sym q ∙ reads) refl) e
 input_traced left p code steps names due size implements reads (taken input q l short e) =
     traced_due left p code input steps names due size implements reads short
-    (subst (λ (r : Bool). IsTaken left r input) (sym q) (l, short)) e
+    (subst (λ (r : Bool). IsTaken left r input) (sym q ∙ reads) (l, short)) e
 input_traced left p code steps names due size implements reads (past_input q more e) = trace_too_long size more e
 
 -- what a trace of a program comes to ends as the program means

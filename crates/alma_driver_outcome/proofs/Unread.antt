@@ -6,7 +6,7 @@ use Rattle.alma_code.specs.Reads.{code_reads}
 use Rattle.alma_code.specs.Machine.{State, start, after, prints}
 use Rattle.alma_lower_implements.specs.Implements.{line_in}
 use Rattle.alma_run_laws.proofs.Unread.{after_alike, prints_alike}
-use Rattle.alma_driver_outcome.specs.Outcome.{Due, code_due}
+use Rattle.alma_driver_outcome.specs.Outcome.{Due, code_due, reading_of}
 use Rattle.alma_driver_outcome.specs.Ends.{mode_end, counts_in}
 use Rattle.alma_driver_outcome.specs.Showing.{Prints}
 
@@ -17,7 +17,7 @@ module _ (code : PlainCode) (input other : List ℕ) where
     end = mode_end s.mode (line_in code s) (counts_in stats s);
     out = out;
     stored = None;
-    reads = code_reads code;
+    reading = reading_of (code_reads code);
   }
 
   -- what a run comes to

@@ -1,17 +1,16 @@
--- How a call that comes to an outcome may go: to its end, or into a fault or want of memory.
-use Rattle.std.specs.Prelude.{◌≡◌, ◌≢◌, ◌⊎◌, ◌+◌, Bool, true, false, List, ℕ, [], None, Some}
+-- How the parts of a call that comes to an outcome may go: to its end, or into a fault or want of memory.
+use Rattle.std.specs.Prelude.{◌≡◌, ◌⊎◌, ◌+◌, List, ℕ, [], None, Some}
 use Rattle.alma_base.specs.Limits.{input_limit}
-use Rattle.std.specs.Io.KnownBytes.{Appends, Consumes, IsAtEnd}
+use Rattle.std.specs.Io.KnownBytes.{Appends}
 use Rattle.alma_io.specs.Fronts.{AppendsFront}
 use Rattle.alma_io.specs.Whole.{LosesAtMost}
-use Rattle.alma_driver_words.specs.Exit as exit
-use Rattle.alma_driver_words.specs.Words.{file_of}
 use Rattle.alma_io.specs.Sides.{SinkSide, SourceSide, FilesSide}
-use Rattle.alma_io.specs.Outside.{Outside, HasRisen, FilesStay, StoredFile, OthersStay, HasStored, Gains, FailsWithin}
-use Rattle.alma_driver_outcome.specs.Ends.{status_of, text_of}
-use Rattle.alma_driver_outcome.specs.Outcome.{Due, Outcome, AskToRead}
+use Rattle.alma_io.specs.Outside.{HasRisen, FilesStay, StoredFile, OthersStay, HasStored, Gains, FailsWithin}
+use Rattle.alma_plan.specs.Course.{Takes, IsBegun}
+use Rattle.alma_plan.specs.Plan.{Finished, Passed}
+use Rattle.alma_driver_outcome.specs.Outcome.{Due}
 use Rattle.alma_driver_outcome.specs.declared.end.End.{End}
-use Rattle.alma_driver_outcome.specs.declared.end.End.TheVariants.{ReadFault, WriteFault, Memory, TooLong}
+use Rattle.alma_driver_outcome.specs.declared.end.End.TheVariants.{ReadFault, WriteFault, Memory}
 
 -- ---- the outputs
 
@@ -29,30 +28,17 @@ Goes outcome old new end = (due : Due) × (due.end ≡ end) × outcome due × Ga
 
 -- ---- the input
 
--- where it is read no more is lost than its limit and one byte, and it did not fail; else it stays
-abbrev pub Takes : (reads : Bool) → SourceSide → SourceSide → Type 0
-Takes false old new = new ≡ old
-Takes true old new = LosesAtMost old.left new.left (input_limit + 1) × (new.faults ≡ old.faults)
-
--- all that was left was read, up to the end
-abbrev pub IsReadWhole : SourceSide → SourceSide → Type 0
-IsReadWhole old new = (bytes : List ℕ) × Consumes old.left new.left bytes × IsAtEnd new.left
-
--- where what is due reads the input, and does not find it too long, the input is read whole
-abbrev pub ReadsWhole : Due → SourceSide → SourceSide → Type 0
-ReadsWhole due old new = due.reads ≡ true → due.end ≢ TooLong → IsReadWhole old new
-
--- what is due is this, and the input is read where it says so, up to its end where it is not too long
+-- what is due is this, and the input becomes what it says
 abbrev pub Moves : (Due → Type 0) → SourceSide → SourceSide → Due → Type 0
-Moves outcome input input' due = outcome due × Takes due.reads input input' × ReadsWhole due input input'
+Moves outcome input input' due = outcome due × Takes due.reading input input'
 
 -- an outcome reads the input
 abbrev pub MayRead : (Due → Type 0) → Type 0
-MayRead outcome = (due : Due) × outcome due × (due.reads ≡ true)
+MayRead outcome = (due : Due) × outcome due × ((due.reading ≡ Finished) ⊎ (due.reading ≡ Passed))
 
 -- the input stays, or an outcome reads it
 abbrev pub ReadsOnly : (Due → Type 0) → SourceSide → SourceSide → Type 0
-ReadsOnly outcome input input' = (input' ≡ input) ⊎ (MayRead outcome × Takes true input input')
+ReadsOnly outcome input input' = (input' ≡ input) ⊎ (MayRead outcome × IsBegun input input')
 
 -- an outcome reads the input, and that failed; nothing was written
 abbrev pub FailsToRead : (Due → Type 0) → SourceSide → SourceSide → SinkSide → SinkSide → End → Type 0
@@ -112,17 +98,3 @@ abbrev pub Performs : (to_read : List ℕ → Type 0) → (Due → Type 0) → F
 Performs to_read outcome files files' input input' out out' end =
     (FailsToFetch to_read files files' out out' end × (input' ≡ input))
     ⊎ ((files'.fetch_faults ≡ files.fetch_faults) × Serves outcome files files' input input' out out' end)
-
--- How an end is reported, where the words name this file: err gained its text, and its status is answered; or err failed
--- within the text.
-abbrev pub Reports : (file : List ℕ) → End → SinkSide → SinkSide → ℕ → Type 0
-Reports file end old new status =
-    ((status ≡ status_of end) × Gains old new (text_of file end))
-    ⊎ ((status ≡ exit.write_fault) × FailsWithin old new (text_of file end))
-
--- How a call with these words may change what is outside, and which status it may answer.
-pub record Answers (words : List (List ℕ)) (before after : Outside) (status : ℕ) : Type 0 where
-  pub end : End
-  pub performed : Performs (AskToRead words) (Outcome words before.files.told before.input.left) before.files after.files before.input
-      after.input before.out after.out end
-  pub reported : Reports (file_of words) end before.err after.err status

@@ -1,17 +1,14 @@
 -- The ends of a call: their statuses and their texts.
 use Rattle.std.specs.Prelude.{Bool, true, false, List, ℕ, [], ◌++◌, codes, decimal, Option, Some, None}
-use Rattle.alma_base.specs.Fault.{run_fault_text}
 use Rattle.alma_io.specs.declared.files.Fetch.{Fetch}
 use Rattle.alma_io.specs.declared.files.Fetch.TheVariants as fetch
 use Rattle.alma_io.specs.declared.files.StoreFault.{StoreFault}
 use Rattle.alma_io.specs.declared.files.StoreFault.TheVariants as store
 use Rattle.alma_object_format.specs.declared.fault.ObjectFault.{ObjectFault}
-use Rattle.alma_object_format.specs.Fault.{object_fault_name, object_fault_number}
 use Rattle.alma_lower.specs.declared.lowering.LowerError.{LowerError}
 use Rattle.alma_lower.specs.declared.lowering.LowerError.TheVariants as lower
 use Rattle.alma_code.specs.declared.step.End as code
 use Rattle.alma_code.specs.declared.step.End.TheVariants as ended
-use Rattle.alma_code.specs.Lines.{known_line}
 use Rattle.alma_code.specs.declared.step.VerifyFault.{VerifyFault}
 use Rattle.alma_base.specs.declared.fault.RunFault.{RunFault}
 use Rattle.alma_code.specs.Machine.{Mode, Going, Failing, Ended, Stuck, State}
@@ -22,12 +19,18 @@ use Rattle.alma_io.specs.declared.whole.ReadAll.TheVariants as whole
 use Rattle.alma_driver_words.specs.Exit as exit
 use Rattle.alma_driver_words.specs.declared.words.WordsError.{WordsError}
 use Rattle.alma_driver_words.specs.declared.words.WordsError.TheVariants as words
+use Rattle.alma_plan.specs.Plan.{Ending, ending_of, line_of}
+use Rattle.alma_plan.specs.Programs.{fault_words}
+use Rattle.alma_plan.specs.Refusals.{object_fault_text, rule_fault_text}
 use Rattle.alma_source.specs.Texts.{refusal_text}
 use Rattle.alma_driver_outcome.specs.declared.end.Counts.{Counts}
 use Rattle.alma_driver_outcome.specs.declared.end.End.{End}
 use Rattle.alma_driver_outcome.specs.declared.end.End.TheVariants.{Succeeded, Failed, BadWord, Refused, Faulted, StepsOut, ReadFault}
 use Rattle.alma_driver_outcome.specs.declared.end.End.TheVariants.{WriteFault, Memory, BadObject, BadCode, TooLong, TooMuchCode}
-use Rattle.alma_run_laws.specs.Shown.{line_text}
+
+-- the name in which the program speaks
+abbrev pub program : List ℕ
+program = codes "alma"
 
 -- the status of an end
 abbrev pub status_of : End → ℕ
@@ -45,42 +48,13 @@ status_of (BadCode fault) = exit.bad_object
 status_of TooLong = exit.too_long
 status_of (TooMuchCode size) = exit.too_much_code
 
--- the text of an end, but for what names a word, a place, a fault, a size or counts
-abbrev pub fixed_text : End → List ℕ
-fixed_text (Succeeded counts) = []
-fixed_text (Failed counts) = []
-fixed_text (BadWord k) = []
-fixed_text (Refused fault place) = []
-fixed_text (Faulted fault line counts) = []
-fixed_text (StepsOut counts) = codes "alma: steps out\n"
-fixed_text ReadFault = codes "alma: read fault\n"
-fixed_text WriteFault = codes "alma: write fault\n"
-fixed_text Memory = codes "alma: out of memory\n"
-fixed_text (BadObject fault) = []
-fixed_text (BadCode fault) = []
-fixed_text TooLong = codes "alma: too long\n"
-fixed_text (TooMuchCode size) = []
+-- a line on err in the name of the program
+abbrev pub says : (text : List ℕ) → List ℕ
+says text = line_of program text
 
 -- the text of a run that stopped in a fault
 abbrev pub fault_text : RunFault → (line : ℕ) → List ℕ
-fault_text fault line = codes "alma: fault " ++ (run_fault_text fault ++ (line_text (known_line line) ++ codes "\n"))
-
--- the number of a fault, if it has one
-abbrev pub number_text : Option ℕ → List ℕ
-number_text None = []
-number_text (Some number) = codes " " ++ decimal number
-
--- the text of bytes that are no object
-abbrev pub object_text : ObjectFault → List ℕ
-object_text fault = codes "alma: object " ++ (object_fault_name fault ++ (number_text (object_fault_number fault) ++ codes "\n"))
-
--- the line of a broken rule and where it is broken, by their texts
-abbrev pub rule_line : (rule at : List ℕ) → List ℕ
-rule_line rule at = codes "alma: object Rule " ++ (rule ++ (codes " " ++ (at ++ codes "\n")))
-
--- the text of code that is not sound, by the first rule that it breaks and where
-abbrev pub rule_text : VerifyFault → List ℕ
-rule_text fault = rule_line (decimal fault.rule) (decimal fault.at)
+fault_text fault line = says (fault_words fault line)
 
 -- the line that tells counts, by their texts
 abbrev pub counts_line : (steps choices fails : List ℕ) → List ℕ
@@ -102,17 +76,27 @@ counts_with end = None
 
 -- the text of an end behind its counts, where the words name this file
 abbrev pub end_text : (file : List ℕ) → End → List ℕ
-end_text file (BadWord k) = codes "alma: bad word " ++ (decimal k ++ codes "\n")
+end_text file (Succeeded counts) = []
+end_text file (Failed counts) = []
+end_text file (BadWord k) = says (codes "bad word " ++ decimal k)
 end_text file (Refused fault place) = refusal_text file fault place
 end_text file (Faulted fault line counts) = fault_text fault line
-end_text file (BadObject fault) = object_text fault
-end_text file (BadCode fault) = rule_text fault
-end_text file (TooMuchCode size) = codes "alma: too much code " ++ (decimal size ++ codes "\n")
-end_text file end = fixed_text end
+end_text file (StepsOut counts) = says (codes "steps out")
+end_text file ReadFault = says (codes "read fault")
+end_text file WriteFault = says (codes "write fault")
+end_text file Memory = says (codes "out of memory")
+end_text file (BadObject fault) = says (object_fault_text fault)
+end_text file (BadCode fault) = says (rule_fault_text fault)
+end_text file TooLong = says (codes "too long")
+end_text file (TooMuchCode size) = says (codes "too much code " ++ decimal size)
 
 -- the text of an end: counts come first
 abbrev pub text_of : (file : List ℕ) → End → List ℕ
 text_of file end = counts_text (counts_with end) ++ end_text file end
+
+-- the end by its status and its text, as all programs have it
+abbrev pub ending_in : (file : List ℕ) → End → Ending
+ending_in file end = ending_of (status_of end) (text_of file end)
 
 -- the counts of a state, where they are asked for
 abbrev pub counts_in : (stats : Bool) → State → Option Counts

@@ -3,5 +3,5 @@ pub mod Showing
 pub mod Ends
 pub mod Outcome
 pub mod Course
-pub mod Causes
+pub mod Scope
 pub mod Headline

@@ -22,6 +22,7 @@ use Rattle.alma_lower_sound.specs.Reads.{program_reads}
 use Rattle.alma_lower_implements.specs.Implements.{state_after, line_in}
 use Rattle.alma_run_laws.specs.Shown.{Shows, size_of}
 use Rattle.alma_lower.specs.CodeFor.{IsCodeFor}
+use Rattle.alma_plan.specs.Plan.{Reading, Kept, Finished, Passed}
 use Rattle.alma_driver_words.specs.Words.{Request, Check, Compile, Listing, Run, Exec, Trace, Sample, Asks, IsBadWord, default_steps}
 use Rattle.alma_driver_outcome.specs.Words.{read_by, limit_of, IsReadBy}
 use Rattle.alma_driver_outcome.specs.Showing.{Showing, Prints, Traces, counts_shown, text_shown}
@@ -33,16 +34,16 @@ use Rattle.alma_driver_outcome.specs.declared.end.End.{End}
 use Rattle.alma_driver_outcome.specs.declared.end.End.TheVariants.{Succeeded, Failed, Faulted, BadWord, Refused, StepsOut, ReadFault}
 use Rattle.alma_driver_outcome.specs.declared.end.End.TheVariants.{Memory, BadObject, BadCode, TooLong, TooMuchCode}
 
--- what is due from a call: its end, the bytes that it writes to out, what it stores, and whether it reads the input
+-- what is due from a call: its end, the bytes that it writes to out, what it stores, and what becomes of the input
 pub record Due : Type 0 where
   pub end : End
   pub out : List ℕ
   pub stored : Option StoredFile
-  pub reads : Bool
+  pub reading : Reading
 
 -- an end with these bytes on out, where nothing is stored and the input stays
 abbrev pub due_of : End → List ℕ → Due
-due_of end out = record { end = end; out = out; stored = None; reads = false }
+due_of end out = record { end = end; out = out; stored = None; reading = Kept }
 
 -- an end without a print
 abbrev pub silent : End → Due
@@ -50,9 +51,14 @@ silent end = due_of end []
 
 -- success without a print, where these bytes are stored under this name
 abbrev pub storing : (name bytes : List ℕ) → Due
-storing name bytes = record { end = Succeeded None; out = []; stored = Some (record { name = name; bytes = bytes }); reads = false }
+storing name bytes = record { end = Succeeded None; out = []; stored = Some (record { name = name; bytes = bytes }); reading = Kept }
 
 -- ---- code and its input
+
+-- what becomes of the input by whether it is read: it is read to its end, or stays
+abbrev pub reading_of : (reads : Bool) → Reading
+reading_of true = Finished
+reading_of false = Kept
 
 -- the end of code in a state, with the counts where they are asked for
 abbrev pub code_end : PlainCode → (stats : Bool) → State → End
@@ -64,12 +70,12 @@ code_due code input steps showing = record {
   end = code_end code (counts_shown showing) (state_after code input steps);
   out = text_shown code input steps showing;
   stored = None;
-  reads = code_reads code;
+  reading = reading_of (code_reads code);
 }
 
 -- an input that was read and is too long
 abbrev pub long_input : Due
-long_input = record { end = TooLong; out = []; stored = None; reads = true }
+long_input = record { end = TooLong; out = []; stored = None; reading = Passed }
 
 -- What a run of code comes to, by what is left of the input: where the code reads, the whole input is read before its
 -- first step, and may be too long; where it does not, it runs on an empty one.
@@ -126,7 +132,7 @@ IsTaken left true input = MayBeLeft left input × (length input ≤ input_limit)
 -- What it says by what is left of the input: the program runs on that, or, where it is not read, on an empty input; or the
 -- input is too long; or the refusal of its size.
 pub data Meant (left : Option (List ℕ)) (p : Program) (steps : ℕ) (stats : Bool) (due : Due) : Type 0 where
-  meant_on : (input : List ℕ) → size_of p ≤ size_limit → due.reads ≡ program_reads p → IsTaken left due.reads input
+  meant_on : (input : List ℕ) → size_of p ≤ size_limit → due.reading ≡ reading_of (program_reads p) → IsTaken left (program_reads p) input
       → MeansOn p input steps stats due → Meant left p steps stats due
   too_long : size_of p ≤ size_limit → MayHaveMore left input_limit → due ≡ long_input → Meant left p steps stats due
   too_large : size_limit < size_of p → due ≡ silent (TooMuchCode (size_of p)) → Meant left p steps stats due
@@ -134,8 +140,8 @@ pub data Meant (left : Option (List ℕ)) (p : Program) (steps : ℕ) (stats : B
 -- What it says of a trace of such a run: it ends as the meaning does, all of whose prints the traced run made, or its steps ran out,
 -- and the run made a front of them.
 pub data TraceMeant (left : Option (List ℕ)) (p : Program) (steps : ℕ) (due : Due) : Type 0 where
-  traced_on : (input printed : List ℕ) (end : events.End) → size_of p ≤ size_limit → due.reads ≡ program_reads p
-      → IsTaken left due.reads input → Shows p input steps printed end → due.end ≡ told_end end None → TraceMeant left p steps due
+  traced_on : (input printed : List ℕ) (end : events.End) → size_of p ≤ size_limit → due.reading ≡ reading_of (program_reads p)
+      → IsTaken left (program_reads p) input → Shows p input steps printed end → due.end ≡ told_end end None → TraceMeant left p steps due
   trace_too_long : size_of p ≤ size_limit → MayHaveMore left input_limit → due ≡ long_input → TraceMeant left p steps due
   trace_too_large : size_limit < size_of p → due ≡ silent (TooMuchCode (size_of p)) → TraceMeant left p steps due
 

@@ -1,6 +1,6 @@
-// The ends of a call: how they come from the answers of its parts, their statuses and their texts.
+// The ends of a call: how they come from the answers of its parts, and their statuses.
 ghost use Rattle.std.specs.Prelude.{◌≡◌};
-ghost use Rattle.alma_driver_outcome.specs.Ends.{status_of, counts_with, fixed_text, run_end, input_end, lower_end, words_end, fetch_end, store_end};
+ghost use Rattle.alma_driver_outcome.specs.Ends.{status_of, counts_with, run_end, input_end, lower_end, words_end, fetch_end, store_end};
 
 use alma_base::{Place, RunFault};
 use alma_code::VerifyFault;
@@ -82,24 +82,6 @@ impl End {
             End::Faulted(_, _, counts) => counts,
             End::StepsOut(counts) => counts,
             _ => None,
-        }
-    }
-
-    /// The text on err behind counts, but for that of an end which names a word, a place, a fault,
-    /// a size or counts.
-    pub fn fixed_text(self) -> &'static [u8]
-        ensures { result.now ≡ fixed_text self }
-    {
-        match self {
-            End::Succeeded(_) | End::Failed(_) => b"",
-            End::BadWord(_) | End::Refused(_, _) => b"",
-            End::Faulted(_, _, _) | End::TooMuchCode(_) => b"",
-            End::BadObject(_) | End::BadCode(_) => b"",
-            End::StepsOut(_) => b"alma: steps out\n",
-            End::ReadFault => b"alma: read fault\n",
-            End::WriteFault => b"alma: write fault\n",
-            End::Memory => b"alma: out of memory\n",
-            End::TooLong => b"alma: too long\n",
         }
     }
 }

@@ -5,7 +5,7 @@ ghost use Rattle.alma_base.specs.Limits.{size_limit};
 ghost use Rattle.alma_source.specs.Refusal.{IsProgramOf};
 ghost use Rattle.alma_io.specs.Outside.{StoredFile, IsUndisturbed, Outside};
 ghost use Rattle.alma_driver_outcome.specs.Outcome.{Due, ProgramOutcome, CompileOutcome, SourceOutcome, Meant, TraceMeant, ListOutcome, ExecOutcome};
-ghost use Rattle.alma_driver_outcome.specs.Causes.{Causes};
+ghost use Rattle.alma_driver_outcome.specs.Scope.{Causes};
 ghost use Rattle.alma_driver_outcome.specs.Headline.{AsksToRun, IsInputLeft, RunEnds, ShowsResult};
 ghost use Rattle.alma_lower_implements.specs.Implements.{visit_steps};
 ghost use Rattle.alma_run_laws.specs.Stored.{SpellsCodeOf};

@@ -9,10 +9,10 @@ use Rattle.alma_io.specs.Sides.{SourceSide, FilesSide}
 use Rattle.alma_io.specs.Outside.{FilesStay, Outside, StoredFile, OthersStay, Become, WriteFailed, WritesGrew, ReadsGrew, Gains}
 use Rattle.alma_plan.specs.Plan.{Ending, Due, Plan, Sense, plain, Fetches, Judges, Reads, Ends, Reading, Kept, Finished, Passed}
 use Rattle.alma_plan.specs.Plan.{MayLack, Lacks, Comes}
-use Rattle.alma_plan.specs.Course.{Takes, MayRead, ReadsOnly, GainsPrefix, Follows, unfetched, unread, unwritten}
-use Rattle.alma_plan.specs.Course.{unstored, starved, done, Reports, said, unsaid, Answers}
-use Rattle.alma_plan.specs.Causes.{FetchFailed, InputFailed, MayCome, IsStoredName, MayEnd, unread_end}
-use Rattle.alma_plan.specs.Causes.{unwritten_end, starved_end, due_end, Causes}
+use Rattle.alma_plan.specs.Course.{Takes, MayRead, ReadsOnly, GainsPrefix, Course, unfetched, unread, unwritten}
+use Rattle.alma_plan.specs.Course.{unstored, starved, done, Reports, said, unsaid, Scope, scope_of, AnswersWithin, Answers}
+use Rattle.alma_plan.specs.Causes.{FetchFailed, InputFailed, IsStoredName, MayEnd, unread_end}
+use Rattle.alma_plan.specs.Causes.{unwritten_end, starved_end, due_end, IsWhole, CausesWithin, Causes}
 use Rattle.alma_plan.proofs.OwnEnds.{HasOwnEnds, HaveOneVerdict}
 
 -- all bytes are a prefix
@@ -99,14 +99,17 @@ plain_has_one source one other is also = absurd is
 
 -- ---- the clauses
 
-module _ {V L : Type 0} (sense : Sense V L) (program : List ℕ) (plan : Plan V L) (one : HaveOneVerdict sense) (own : HasOwnEnds sense plan)
-    (before after : Outside) (status : ℕ) where
-  -- what may come, how the call may come to an end, and how it reports it
-  abbrev May : Reading → Due → Type 0
-  May = MayCome sense program plan before
+-- What may come ends as the call's own: in a read fault only where a file may be missing, and without a print or a store; and in a read
+-- fault where one is missing; in no write fault and no want of memory.
+pub record HasOwnDues (scope : Scope) : Type 0 where
+  pub reads : (r : Reading) (due : Due) → scope.may r due → due.end.status ≡ 6 → scope.may_lack × (due.out ≡ []) × (due.stored ≡ None)
+  pub own : (r : Reading) (due : Due) → scope.may r due → (due.end.status ≢ 7) × (due.end.status ≢ 8)
+  pub lacking : scope.lacks → (r : Reading) (due : Due) → scope.may r due → due.end.status ≡ 6
 
+module _ (program : List ℕ) (scope : Scope) (dues : HasOwnDues scope) (before after : Outside) (status : ℕ) where
+  -- how the call may come to an end, and how it reports it
   abbrev CourseTo : Ending → Type 0
-  CourseTo end = Follows sense program plan before.files after.files before.input after.input before.out after.out end
+  CourseTo end = Course program scope.asks scope.may before.files after.files before.input after.input before.out after.out end
 
   abbrev ReportOf : Ending → Type 0
   ReportOf end = Reports end before.err after.err status
@@ -114,7 +117,7 @@ module _ {V L : Type 0} (sense : Sense V L) (program : List ℕ) (plan : Plan V 
   -- at a read fault a file is missing, or a fetch or a read failed; nothing was written, and the files stay
   abbrev ReadFaultIs : Type 0
   ReadFaultIs =
-      (FetchFailed sense plan before after ⊎ (InputFailed May before after ⊎ MayLack sense before.files.told plan))
+      (FetchFailed scope.asks before after ⊎ (InputFailed scope.may before after ⊎ scope.may_lack))
       × Appends before.out.written after.out.written []
       × FilesStay before.files after.files
 
@@ -127,7 +130,7 @@ module _ {V L : Type 0} (sense : Sense V L) (program : List ℕ) (plan : Plan V 
       absurd (omega (arith, s, e, of_status end _ q))
   read_fault_of end (starved q fetches files reads out faults) (said s g) e = absurd (omega (arith, s, e, of_status end _ q))
   read_fault_of end (done r due may is fetches files takes out) (said s g) e =
-      let found = due_reads sense program before.files.told before.input.left plan own r due may (of_status due.end end is ∙ sym s ∙ e) in (
+      let found = dues.reads r due may (of_status due.end end is ∙ sym s ∙ e) in (
         inr (inr found.0),
         subst (Appends before.out.written after.out.written) found.1 out.bytes_are,
         subst (Become before.files after.files) found.2 files,
@@ -141,9 +144,9 @@ module _ {V L : Type 0} (sense : Sense V L) (program : List ℕ) (plan : Plan V 
   write_fault_of end (unstored r due stored may is q fetches files risen takes out) (said s g) e = inr (inr risen.1)
   write_fault_of end (starved q fetches files reads out faults) (said s g) e = absurd (omega (arith, s, e, of_status end _ q))
   write_fault_of end (done r due may is fetches files takes out) (said s g) e =
-      absurd ((due_own sense program before.files.told before.input.left plan own r due may).0 (of_status due.end end is ∙ sym s ∙ e))
+      absurd ((dues.own r due may).0 (of_status due.end end is ∙ sym s ∙ e))
 
-  prefix_of : (end : Ending) → CourseTo end → GainsPrefix May before.out after.out
+  prefix_of : (end : Ending) → CourseTo end → GainsPrefix scope.may before.out after.out
   prefix_of end (unfetched name asks q risen files input out) = inl out.bytes_are
   prefix_of end (unread q fetches files reads lost risen out) = inl out.bytes_are
   prefix_of end (unwritten r due may q fetches files takes out) = inr (r, due, may, out.front)
@@ -153,7 +156,7 @@ module _ {V L : Type 0} (sense : Sense V L) (program : List ℕ) (plan : Plan V 
   prefix_of end (done r due may is fetches files takes out) =
       inr (r, due, may, whole_front before.out.written after.out.written due.out out.bytes_are)
 
-  end_of : (end : Ending) → CourseTo end → MayEnd program May end
+  end_of : (end : Ending) → CourseTo end → MayEnd program scope.may end
   end_of end (unfetched name asks q risen files input out) = unread_end q
   end_of end (unread q fetches files reads lost risen out) = unread_end q
   end_of end (unwritten r due may q fetches files takes out) = unwritten_end q
@@ -163,9 +166,9 @@ module _ {V L : Type 0} (sense : Sense V L) (program : List ℕ) (plan : Plan V 
 
   -- the files stay, but for one that is to be stored
   abbrev FilesAre : Type 0
-  FilesAre = FilesStay before.files after.files ⊎ ((name : List ℕ) × IsStoredName May name × OthersStay before.files after.files name)
+  FilesAre = FilesStay before.files after.files ⊎ ((name : List ℕ) × IsStoredName scope.may name × OthersStay before.files after.files name)
 
-  become_are : (r : Reading) (due : Due) → May r due → (stored : Option StoredFile) → due.stored ≡ stored
+  become_are : (r : Reading) (due : Due) → scope.may r due → (stored : Option StoredFile) → due.stored ≡ stored
       → Become before.files after.files stored → FilesAre
   become_are r due may None is b = inl b
   become_are r due may (Some stored) is b = inr (stored.name, (r, due, stored, may, is, refl), b.0)
@@ -187,20 +190,15 @@ module _ {V L : Type 0} (sense : Sense V L) (program : List ℕ) (plan : Plan V 
       absurd (omega (arith, s, e, of_status end _ q))
   starved_files_of end (starved q fetches files reads out faults) (said s g) e = files
   starved_files_of end (done r due may is fetches files takes out) (said s g) e =
-      absurd ((due_own sense program before.files.told before.input.left plan own r due may).1 (of_status due.end end is ∙ sym s ∙ e))
+      absurd ((dues.own r due may).1 (of_status due.end end is ∙ sym s ∙ e))
 
   files_stay_of : (end : Ending) → CourseTo end → ReportOf end → (status ≡ 6) ⊎ (status ≡ 8) → FilesStay before.files after.files
   files_stay_of end course report (inl e) = (read_fault_of end course report e).2
   files_stay_of end course report (inr e) = starved_files_of end course report e
 
   -- all that is due came
-  abbrev IsWhole : Type 0
-  IsWhole =
-      (r : Reading) × (due : Due) × May r due × (status ≡ due.end.status) × Gains before.out after.out due.out
-      × Gains before.err after.err due.end.text
-      × Become before.files after.files due.stored × Takes r before.input after.input
-
-  whole_of : (end : Ending) → CourseTo end → ReportOf end → (status ≢ 6) → (status ≢ 7) → (status ≢ 8) → IsWhole
+  whole_of : (end : Ending) → CourseTo end → ReportOf end → (status ≢ 6) → (status ≢ 7) → (status ≢ 8)
+      → IsWhole scope.may before after status
   whole_of end course (unsaid s f) no_read no_write no_want = absurd (no_write s)
   whole_of end (unfetched name asks q risen files input out) (said s g) no_read no_write no_want = absurd (no_read (s ∙ of_status end _ q))
   whole_of end (unread q fetches files reads lost risen out) (said s g) no_read no_write no_want = absurd (no_read (s ∙ of_status end _ q))
@@ -250,19 +248,19 @@ module _ {V L : Type 0} (sense : Sense V L) (program : List ℕ) (plan : Plan V 
   reads_shown_of end (done r due may is fetches files takes out) (said s g) grew =
       absurd (quiet_reads fetches (takes_quiet r before.input after.input takes) grew)
 
-  starved_input : ReadsOnly May before.input after.input → (after.input ≡ before.input) ⊎ MayRead May
+  starved_input : ReadsOnly scope.may before.input after.input → (after.input ≡ before.input) ⊎ MayRead scope.may
   starved_input (inl e) = inl e
   starved_input (inr h) = inr h.0
 
-  input_of : (end : Ending) → CourseTo end → (after.input ≡ before.input) ⊎ MayRead May
+  input_of : (end : Ending) → CourseTo end → (after.input ≡ before.input) ⊎ MayRead scope.may
   input_of end (unfetched name asks q risen files input out) = inl input
   input_of end (unread q fetches files reads lost risen out) = inr reads
-  input_of end (unwritten r due may q fetches files takes out) = takes_read May r due before.input after.input may takes
-  input_of end (unstored r due stored may is q fetches files risen takes out) = takes_read May r due before.input after.input may takes
+  input_of end (unwritten r due may q fetches files takes out) = takes_read scope.may r due before.input after.input may takes
+  input_of end (unstored r due stored may is q fetches files risen takes out) = takes_read scope.may r due before.input after.input may takes
   input_of end (starved q fetches files reads out faults) = starved_input reads
-  input_of end (done r due may is fetches files takes out) = takes_read May r due before.input after.input may takes
+  input_of end (done r due may is fetches files takes out) = takes_read scope.may r due before.input after.input may takes
 
-  absence_shown_of : (end : Ending) → CourseTo end → ReportOf end → Lacks sense before.files.told plan → (status ≡ 6)
+  absence_shown_of : (end : Ending) → CourseTo end → ReportOf end → scope.lacks → (status ≡ 6)
       ⊎ ((status ≡ 7) ⊎ (status ≡ 8))
   absence_shown_of end course (unsaid s f) l = inr (inl s)
   absence_shown_of end (unfetched name asks q risen files input out) (said s g) l = inl (s ∙ of_status end _ q)
@@ -271,11 +269,11 @@ module _ {V L : Type 0} (sense : Sense V L) (program : List ℕ) (plan : Plan V 
   absence_shown_of end (unstored r due stored may is q fetches files risen takes out) (said s g) l = inr (inl (s ∙ of_status end _ q))
   absence_shown_of end (starved q fetches files reads out faults) (said s g) l = inr (inr (s ∙ of_status end _ q))
   absence_shown_of end (done r due may is fetches files takes out) (said s g) l =
-      inl (s ∙ sym (of_status due.end end is) ∙ due_lacks sense program before.files.told before.input.left one plan l r due may)
+      inl (s ∙ sym (of_status due.end end is) ∙ dues.lacking l r due may)
 
-  -- what a call's status says of it, where the plan has ends of its own
-  pub causes_of : Answers sense program plan before after status → Causes sense program plan before after status
-  causes_of x = record {
+  -- what a call's status says of it
+  pub causes_within : AnswersWithin program scope before after status → CausesWithin program scope before after status
+  causes_within x = record {
     read_fault_is = λ e. (read_fault_of x.end x.course x.reported e).0;
     nothing = λ e. (read_fault_of x.end x.course x.reported e).1;
     write_fault_is = write_fault_of x.end x.course x.reported;
@@ -289,3 +287,15 @@ module _ {V L : Type 0} (sense : Sense V L) (program : List ℕ) (plan : Plan V 
     input = input_of x.end x.course;
     absence_shown = absence_shown_of x.end x.course x.reported;
   }
+
+-- the same of a plan that has ends of its own
+pub causes_of : {V L : Type 0} (sense : Sense V L) (program : List ℕ) (plan : Plan V L) → HaveOneVerdict sense → HasOwnEnds sense plan
+    → (before after : Outside) (status : ℕ) → Answers sense program plan before after status → Causes sense program plan before after status
+causes_of sense program plan one own before after status =
+    let told = before.files.told in
+    let left = before.input.left in
+    causes_within program (scope_of sense program plan before) (record {
+      reads = due_reads sense program told left plan own;
+      own = due_own sense program told left plan own;
+      lacking = λ l. due_lacks sense program told left one plan l;
+    }) before after status

@@ -1,4 +1,4 @@
--- How a call that goes by a plan may come to an end: to what is due, or into a fault or want of memory.
+-- How a call may come to an end: to what is due, or into a fault or want of memory.
 use Rattle.std.specs.Prelude.{◌≡◌, ◌⊎◌, ◌+◌, ◌≤◌, List, ℕ, [], length, None, Some}
 use Rattle.std.specs.Io.KnownBytes.{Appends, Consumes, IsAtEnd}
 use Rattle.alma_base.specs.Limits.{input_limit}
@@ -7,8 +7,8 @@ use Rattle.alma_io.specs.Fronts.{AppendsFront}
 use Rattle.alma_io.specs.Sides.{SinkSide, SourceSide, FilesSide}
 use Rattle.alma_io.specs.Whole.{LosesAtMost, LosesBytes}
 use Rattle.alma_io.specs.Outside.{Outside, HasRisen, FilesStay, StoredFile, OthersStay, Become, Gains, FailsWithin}
-use Rattle.alma_plan.specs.Plan.{Ending, Due, Plan, Sense, Reading, Kept, Finished, Passed, Asks, Comes, read_fault, write_fault}
-use Rattle.alma_plan.specs.Plan.{no_memory}
+use Rattle.alma_plan.specs.Plan.{Ending, Due, Plan, Sense, Reading, Kept, Finished, Passed, Asks, Comes, MayLack, Lacks, read_fault}
+use Rattle.alma_plan.specs.Plan.{write_fault, no_memory}
 
 -- ---- the input
 
@@ -94,9 +94,29 @@ pub data Reports (end : Ending) (old new : SinkSide) (status : ℕ) : Type 0 whe
   said : status ≡ end.status → Gains old new end.text → Reports end old new status
   unsaid : status ≡ exit.write_fault → FailsWithin old new end.text → Reports end old new status
 
--- How a call in the name of a program, with this plan, may change what is outside, and which status it may answer.
-pub record Answers {V L : Type 0} (sense : Sense V L) (program : List ℕ) (plan : Plan V L) (before after : Outside) (status : ℕ) : Type 0
-  where
-    pub end : Ending
-    pub course : Follows sense program plan before.files after.files before.input after.input before.out after.out end
-    pub reported : Reports end before.err after.err status
+-- What a call may ask for and come to, by what is outside before: the files that it may ask for, whether one that it may ask for, and
+-- one that it does, is told to be missing, and what may come.
+pub record Scope : Type 1 where
+  pub asks : (name : List ℕ) → Type 0
+  pub may_lack : Type 0
+  pub lacks : Type 0
+  pub may : Reading → Due → Type 0
+
+-- that of a plan
+abbrev pub scope_of : {V L : Type 0} → Sense V L → (program : List ℕ) → Plan V L → Outside → Scope
+scope_of sense program plan before = record {
+  asks = Asks sense before.files.told plan;
+  may_lack = MayLack sense before.files.told plan;
+  lacks = Lacks sense before.files.told plan;
+  may = Comes sense program before.files.told before.input.left plan;
+}
+
+-- How a call in the name of a program, with this scope, may change what is outside, and which status it may answer.
+pub record AnswersWithin (program : List ℕ) (scope : Scope) (before after : Outside) (status : ℕ) : Type 0 where
+  pub end : Ending
+  pub course : Course program scope.asks scope.may before.files after.files before.input after.input before.out after.out end
+  pub reported : Reports end before.err after.err status
+
+-- the same with this plan
+abbrev pub Answers : {V L : Type 0} → Sense V L → (program : List ℕ) → Plan V L → (before after : Outside) → (status : ℕ) → Type 0
+Answers sense program plan before after status = AnswersWithin program (scope_of sense program plan before) before after status
