@@ -1,4 +1,4 @@
--- How a call comes to its end within what its words may ask for and come to.
+-- What a call may come to ends as its own: why it answers a fault, and that none is hidden.
 use Rattle.std.proofs.Common.{◌≡◌, ◌<◌, ◌∙◌, ℕ, List, [], refl, sym, ap, subst, inl, inr, arith}
 use Rattle.std.specs.Prelude.{◌⊎◌, ◌≢◌, Bool, Option, None, Some}
 use Rattle.alma_io.specs.Files.{Told, Missing, MayHave, MayPass}
@@ -10,31 +10,25 @@ use Rattle.alma_verify.specs.Bytes.{object_code}
 use Rattle.alma_lower_implements.specs.Implements.{state_after, line_in}
 use Rattle.alma_driver_words.specs.Words.{Request, Check, Compile, Listing, Run, Exec, Trace, Sample, Asks, file_of}
 use Rattle.alma_driver_words.proofs.WordLemmas.{one_request}
-use Rattle.alma_io.specs.Sides.{SinkSide, SourceSide, FilesSide}
-use Rattle.alma_io.specs.Outside.{FilesStay, Outside, StoredFile, Become, Gains, FailsWithin}
+use Rattle.alma_io.specs.Outside.{Outside}
 use Rattle.alma_plan.specs.Plan as plan
-use Rattle.alma_plan.specs.Plan.{Reading, Finished, Passed}
-use Rattle.alma_plan.specs.Course as frame
-use Rattle.alma_plan.specs.Course.{unfetched, unread, unwritten, unstored, starved, done}
+use Rattle.alma_plan.specs.Plan.{Reading}
 use Rattle.alma_plan.proofs.CauseLemmas.{HasOwnDues, causes_within}
 use Rattle.alma_plan.proofs.Owns.{IsOwnStatus, own_status}
 use Rattle.alma_driver_outcome.specs.Words.{read_by, limit_of}
 use Rattle.alma_driver_outcome.specs.Showing.{Showing, Prints, Traces, counts_shown}
 use Rattle.alma_driver_outcome.specs.declared.end.Counts.{Counts}
 use Rattle.alma_driver_outcome.specs.declared.end.End.{End}
-use Rattle.alma_driver_outcome.specs.declared.end.End.TheVariants.{Succeeded, Failed, BadWord, Refused, Faulted, StepsOut, ReadFault}
-use Rattle.alma_driver_outcome.specs.declared.end.End.TheVariants.{WriteFault, Memory, BadObject, BadCode, TooLong, TooMuchCode}
-use Rattle.alma_driver_outcome.specs.Ends.{mode_end, counts_in, status_of, ending_in, program}
+use Rattle.alma_driver_outcome.specs.declared.end.End.TheVariants.{ReadFault}
+use Rattle.alma_driver_outcome.specs.Ends.{mode_end, counts_in, status_of, program}
 use Rattle.alma_driver_outcome.specs.Outcome as outcome
 use Rattle.alma_driver_outcome.specs.Outcome.{Due, InputOutcome, taken, past_input, ProgramOutcome, ran, too_much_code}
 use Rattle.alma_driver_outcome.specs.Outcome.{CompileOutcome, made, past_size, IsSourceEnd, refused, SourceOutcome, stopped, compiled}
 use Rattle.alma_driver_outcome.specs.Outcome.{CheckOutcome, ListOutcome, listed, no_object, CodeOutcome, executed, unsound, ExecOutcome}
 use Rattle.alma_driver_outcome.specs.Outcome.{opened, unopened, SampleOutcome, summed, FileOutcome, RequestOutcome, absent, past_limit}
-use Rattle.alma_driver_outcome.specs.Outcome.{fetched, Outcome, bad_word, asks, AskToRead, Lacks}
-use Rattle.alma_driver_outcome.specs.Course as course
-use Rattle.alma_driver_outcome.specs.Course.{GainsPrefix, Goes, Keeps, Stores, Works, Moves, MayRead, ReadsOnly, FailsToRead, Serves}
-use Rattle.alma_driver_outcome.specs.Course.{FailsToFetch, Performs}
-use Rattle.alma_driver_outcome.specs.Scope.{Answers, Causes, MayCome, scope_of, shown_in}
+use Rattle.alma_driver_outcome.specs.Outcome.{fetched, Outcome, bad_word, asks, Lacks}
+use Rattle.alma_driver_outcome.specs.Course.{MayCome}
+use Rattle.alma_driver_outcome.specs.Scope.{Answers, Causes, DueOf, scope_of}
 
 -- ---- what is due
 
@@ -149,131 +143,40 @@ outcome_absent told left words due l (asks r k o) =
     let is : read_by r ≡ Some l.1 = subst (λ (q : Request). read_by q ≡ Some l.1) (one_request words l.0 r l.2 k) l.3 in
     request_absent told left r l.1 due is l.4 o
 
--- ---- the ways of a call
+-- ---- what may come
 
--- the ways in which out may go, by the end that the call comes to
-data Way (P : Due → Type 0) (a b : SinkSide) (end : End) : Type 0 where
-  broken : end ≡ WriteFault → (due : Due) → P due → FailsWithin a b due.out → Way P a b end
-  hungry : end ≡ Memory → GainsPrefix P a b → b.faults ≡ a.faults → Way P a b end
-  over : (due : Due) → due.end ≡ end → P due → Gains a b due.out → Way P a b end
+module _ (words : List (List ℕ)) (before : Outside) where
+  -- the status of what may come
+  status_is : (r : Reading) (shown : plan.Due) (m : MayCome (file_of words) (DueOf words before) r shown)
+      → shown.end.status ≡ status_of m.0.end
+  status_is r shown m = ap (λ (d : plan.Due). d.end.status) m.3
 
-way_of : (P : Due → Type 0) (a b : SinkSide) (end : End) → Goes P a b end → Way P a b end
-way_of P a b WriteFault g = broken refl g.0 g.1 g.2
-way_of P a b Memory g = hungry refl g.0 g.1
-way_of P a b (Succeeded counts) g = over g.0 g.1 g.2 g.3
-way_of P a b (Failed counts) g = over g.0 g.1 g.2 g.3
-way_of P a b (BadWord k) g = over g.0 g.1 g.2 g.3
-way_of P a b (Refused fault place) g = over g.0 g.1 g.2 g.3
-way_of P a b (Faulted fault line counts) g = over g.0 g.1 g.2 g.3
-way_of P a b (StepsOut counts) g = over g.0 g.1 g.2 g.3
-way_of P a b ReadFault g = over g.0 g.1 g.2 g.3
-way_of P a b (BadCode fault) g = over g.0 g.1 g.2 g.3
-way_of P a b (BadObject fault) g = over g.0 g.1 g.2 g.3
-way_of P a b TooLong g = over g.0 g.1 g.2 g.3
-way_of P a b (TooMuchCode size) g = over g.0 g.1 g.2 g.3
+  by_reads : (r : Reading) (shown : plan.Due) (m : MayCome (file_of words) (DueOf words before) r shown) → shown.end.status ≡ 6
+      → IsAbsence words before.files.told m.0 ⊎ IsOwn m.0
+      → Lacks words before.files.told × (shown.out ≡ []) × (shown.stored ≡ None)
+  by_reads r shown m e (inl none) = (
+    none.0,
+    ap (λ (d : plan.Due). d.out) m.3 ∙ ap (λ (d : Due). d.out) none.1,
+    ap (λ (d : plan.Due). d.stored) m.3 ∙ ap (λ (d : Due). d.stored) none.1,
+  )
+  by_reads r shown m e (inr own) = absurd (own.0 (sym (status_is r shown m) ∙ e))
 
-module _ (words : List (List ℕ)) (before after : Outside) where
-  -- what is due from the words, and with what becomes of the input
-  abbrev DueOf : Due → Type 0
-  DueOf = Outcome words before.files.told before.input.left
+  by_own : (r : Reading) (shown : plan.Due) (m : MayCome (file_of words) (DueOf words before) r shown)
+      → IsAbsence words before.files.told m.0 ⊎ IsOwn m.0
+      → (shown.end.status ≢ 7) × (shown.end.status ≢ 8)
+  by_own r shown m (inl none) =
+      let six : shown.end.status ≡ 6 = status_is r shown m ∙ ap (λ (d : Due). status_of d.end) none.1 in
+      (λ e. absurd (omega (arith, six, e)), λ e. absurd (omega (arith, six, e)))
+  by_own r shown m (inr own) = (λ e. own.1 (sym (status_is r shown m) ∙ e), λ e. own.2 (sym (status_is r shown m) ∙ e))
 
-  abbrev MovesOf : Due → Type 0
-  MovesOf = Moves DueOf before.input after.input
-
-  -- how the call may come to this end
-  abbrev CourseTo : End → Type 0
-  CourseTo end =
-      frame.Course program (AskToRead words) (MayCome words before) before.files after.files before.input after.input before.out after.out
-      (ending_in (file_of words) end)
-
-  -- what is due may come
-  may_come : (due : Due) → DueOf due → MayCome words before due.reading (shown_in (file_of words) due)
-  may_come due o = (due, o, refl, refl)
-
-  -- what is due by what may come
-  due_end : (r : Reading) (shown : plan.Due) → (m : MayCome words before r shown) → shown.end.status ≡ status_of m.0.end
-  due_end r shown m = ap (λ (d : plan.Due). d.end.status) m.3
-
-  may_read : MayRead DueOf → frame.MayRead (MayCome words before)
-  may_read m = (shown_in (file_of words) m.0, by m.2)
-    where
-      by : (m.0.reading ≡ Finished) ⊎ (m.0.reading ≡ Passed)
-          → MayCome words before Finished (shown_in (file_of words) m.0) ⊎ MayCome words before Passed (shown_in (file_of words) m.0)
-      by (inl e) = inl (m.0, m.1, sym e, refl)
-      by (inr e) = inr (m.0, m.1, sym e, refl)
-
-  reads_only : ReadsOnly DueOf before.input after.input → frame.ReadsOnly (MayCome words before) before.input after.input
-  reads_only (inl e) = inl e
-  reads_only (inr h) = inr (may_read h.0, h.1)
-
-  prefix_of : (P : Due → Type 0) → ((due : Due) → P due → DueOf due) → GainsPrefix P before.out after.out
-      → frame.GainsPrefix (MayCome words before) before.out after.out
-  prefix_of P due_of (inl h) = inl h
-  prefix_of P due_of (inr h) = inr (h.0.reading, shown_in (file_of words) h.0, may_come h.0 (due_of h.0 h.1), h.2)
-
-  -- an end as it is told
-  told : (end known : End) → end ≡ known → ending_in (file_of words) end ≡ ending_in (file_of words) known
-  told end known e = ap (ending_in (file_of words)) e
-
-  module _ (quiet : after.files.fetch_faults ≡ before.files.fetch_faults) (reads : ReadsOnly DueOf before.input after.input) (end : End) where
-    -- nothing was to be stored
-    course_kept : FilesStay before.files after.files → Way (Keeps MovesOf) before.out after.out end → CourseTo end
-    course_kept stay (broken e due o out) =
-        unwritten due.reading (shown_in (file_of words) due) (may_come due o.0.0) (told end WriteFault e) quiet stay o.0.1 out
-    course_kept stay (hungry e out faults) =
-        starved (told end Memory e) quiet stay (reads_only reads) (prefix_of (Keeps MovesOf) (λ due k. k.0.0) out) faults
-    course_kept stay (over due e o out) =
-        done due.reading (shown_in (file_of words) due) (may_come due o.0.0) (told due.end end e) quiet
-        (subst (Become before.files after.files) (sym o.1) stay) o.0.1 out
-
-    -- or it was, or failed to be
-    course_stored : Stores MovesOf before.files after.files before.out after.out end → CourseTo end
-    course_stored (course.done due stored o is out has e) =
-        done due.reading (shown_in (file_of words) due) (may_come due o.0) (told due.end end e) quiet
-        (subst (Become before.files after.files) (sym is) has) o.1 out
-    course_stored (course.failed due stored o is out fails e) =
-        unstored due.reading (shown_in (file_of words) due) stored (may_come due o.0) is (told end WriteFault e) quiet fails.0 fails.1 o.1 out
-
-    course_works : Works MovesOf before.files after.files before.out after.out end → CourseTo end
-    course_works (inl w) = course_kept w.0 (way_of (Keeps MovesOf) before.out after.out end w.1)
-    course_works (inr w) = course_stored w
-
-  -- a call that performs what the words ask
-  pub course_of : (end : End)
-      → Performs (AskToRead words) DueOf before.files after.files before.input after.input before.out after.out end → CourseTo end
-  course_of end (inl p) =
-      let fetch = p.0.1 in
-      unfetched fetch.0 fetch.2 (told end ReadFault p.0.0) fetch.1 p.0.2 p.1 p.0.3
-  course_of end (inr p) = by p.1
-    where
-      by : Serves DueOf before.files after.files before.input after.input before.out after.out end → CourseTo end
-      by (inl h) = unread (told end ReadFault h.1.0) p.0 h.0 (may_read h.1.1) h.1.2 h.1.3 h.1.4
-      by (inr h) = course_works p.0 h.0 end h.1
-
-  -- a read fault is due where the file is missing, and so on
+  -- it ends as the call's own
   dues_own : HasOwnDues (scope_of words before)
   dues_own = record {
     reads = λ r shown m e. by_reads r shown m e (outcome_dues before.files.told before.input.left words m.0 m.1);
     own = λ r shown m. by_own r shown m (outcome_dues before.files.told before.input.left words m.0 m.1);
-    lacking = λ l r shown m. due_end r shown m ∙ ap status_of (outcome_absent before.files.told before.input.left words m.0 l m.1);
-  } where
-    by_reads : (r : Reading) (shown : plan.Due) (m : MayCome words before r shown) → shown.end.status ≡ 6
-        → IsAbsence words before.files.told m.0 ⊎ IsOwn m.0
-        → Lacks words before.files.told × (shown.out ≡ []) × (shown.stored ≡ None)
-    by_reads r shown m e (inl none) = (
-      none.0,
-      ap (λ (d : plan.Due). d.out) m.3 ∙ ap (λ (d : Due). d.out) none.1,
-      ap (λ (d : plan.Due). d.stored) m.3 ∙ ap (λ (d : Due). d.stored) none.1,
-    )
-    by_reads r shown m e (inr own) = absurd (own.0 (sym (due_end r shown m) ∙ e))
-
-    by_own : (r : Reading) (shown : plan.Due) (m : MayCome words before r shown) → IsAbsence words before.files.told m.0 ⊎ IsOwn m.0
-        → (shown.end.status ≢ 7) × (shown.end.status ≢ 8)
-    by_own r shown m (inl none) =
-        let six : shown.end.status ≡ 6 = due_end r shown m ∙ ap (λ (d : Due). status_of d.end) none.1 in
-        (λ e. absurd (omega (arith, six, e)), λ e. absurd (omega (arith, six, e)))
-    by_own r shown m (inr own) = (λ e. own.1 (sym (due_end r shown m) ∙ e), λ e. own.2 (sym (due_end r shown m) ∙ e))
+    lacking = λ l r shown m. status_is r shown m ∙ ap status_of (outcome_absent before.files.told before.input.left words m.0 l m.1);
+  }
 
   -- what a call's status says of it
-  pub causes_of : (status : ℕ) → Answers words before after status → Causes words before after status
-  causes_of status = causes_within program (scope_of words before) dues_own before after status
+  pub causes_of : (after : Outside) (status : ℕ) → Answers words before after status → Causes words before after status
+  causes_of after status = causes_within program (scope_of words before) dues_own before after status

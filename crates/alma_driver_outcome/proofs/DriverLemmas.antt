@@ -1,5 +1,4 @@
 -- From what the parts of a call ensure to how the call may go.
-use Rattle.std.proofs.lemmas.List.{append-nil}
 use Rattle.std.proofs.Common.{◌+◌, ◌++◌, ◌≡◌, ◌≤◌, ◌<◌, ◌^◌, ◌∙◌, ℕ, List, [], length, ap, sym, subst, refl, inl, inr, arith}
 use Rattle.std.specs.Prelude.{◌⊎◌, Bool, true, false, Option, Result, Err, None, Some}
 use Rattle.std.specs.Global.{Vec}
@@ -43,117 +42,36 @@ use Rattle.alma_base.specs.declared.place.Place.{Place}
 use Rattle.alma_scan.specs.Places.{line_at, column_at}
 use Rattle.alma_source.specs.Refusal.{IsRefused, IsProgramOf, place_of}
 use Rattle.alma_source.specs.declared.fault.SourceFault.{SourceFault}
-use Rattle.alma_driver_outcome.specs.Ends.{lower_end, words_end, fetch_end, store_end, input_end}
-use Rattle.alma_plan.specs.Course.{Takes}
-use Rattle.alma_plan.specs.Plan.{Reading, Kept}
+use Rattle.alma_driver_outcome.specs.Ends.{lower_end, words_end, fetch_end, store_end, input_end, program}
+use Rattle.alma_plan.specs.Course as frame
+use Rattle.alma_plan.specs.Course.{MayRead, Takes}
+use Rattle.alma_plan.specs.Plan.{Reading, Kept, Finished, Passed}
+use Rattle.alma_plan.proofs.Courses.{course_starved, files_same, gains_none, was_left}
+use Rattle.alma_plan.proofs.Storing.{is_object, stored_as}
 use Rattle.alma_driver_outcome.specs.Outcome.{Due, due_of, silent, storing, code_due, long_input, reading_of, InputOutcome, unread}
 use Rattle.alma_driver_outcome.specs.Outcome.{taken, past_input, ProgramOutcome, ran, too_much_code, CompileOutcome, made}
 use Rattle.alma_driver_outcome.specs.Outcome.{past_size, IsSourceEnd, refused, IsStop, SourceOutcome, stopped, compiled, CheckOutcome}
 use Rattle.alma_driver_outcome.specs.Outcome.{ListOutcome, listed, no_object, CodeOutcome, executed, unsound, ExecOutcome, opened, unopened}
 use Rattle.alma_driver_outcome.specs.Outcome.{FileOutcome, SampleOutcome, summed, RequestOutcome, absent, past_limit, fetched, unfetched}
 use Rattle.alma_driver_outcome.specs.Outcome.{Outcome, bad_word, asks, AskToRead}
-use Rattle.alma_driver_outcome.specs.Course.{GainsPrefix, Goes, Keeps, done, failed, Works, Moves}
-use Rattle.alma_driver_outcome.specs.Course.{MayRead, ReadsOnly, FailsToRead, Runs, Serves, Performs}
 use Rattle.alma_driver_words.specs.declared.words.WordsError.{WordsError}
 use Rattle.alma_driver_words.specs.declared.words.WordsError.TheVariants as words
 use Rattle.alma_driver_outcome.specs.declared.end.End.{End}
 use Rattle.alma_driver_outcome.specs.declared.end.End.TheVariants.{Succeeded, Failed, BadWord, Refused, Faulted, StepsOut, ReadFault}
 use Rattle.alma_driver_outcome.specs.declared.end.End.TheVariants.{WriteFault, Memory, BadObject, BadCode, TooLong, TooMuchCode}
+use Rattle.alma_driver_outcome.specs.Course.{Goes, MayCome, NoFile, Runs, Serves, Works, shown_in}
+use Rattle.alma_driver_outcome.proofs.CourseLemmas.{goes_map, goes_silent, goes_starved, serves_behind, runs_map, runs_by, runs_still}
+use Rattle.alma_driver_outcome.proofs.CourseLemmas.{runs_starved, runs_silent, works_map, works_starved, works_silent}
 use Rattle.alma_driver_outcome.proofs.RunLemmas.{IsDue}
 
--- an outcome inside another
-pub goes_map : (P Q : Due → Type 0) → ((due : Due) → P due → Q due) → (a b : SinkSide) (end : End) → Goes P a b end → Goes Q a b end
-goes_map P Q f a b WriteFault g = (g.0, f g.0 g.1, g.2)
-goes_map P Q f a b Memory g = (halted g.0, g.1) where
-  halted : GainsPrefix P a b → GainsPrefix Q a b
-  halted (inl h) = inl h
-  halted (inr h) = inr (h.0, f h.0 h.1, h.2)
-goes_map P Q f a b (Succeeded counts) g = (g.0, g.1, f g.0 g.2, g.3)
-goes_map P Q f a b (Failed counts) g = (g.0, g.1, f g.0 g.2, g.3)
-goes_map P Q f a b (BadWord k) g = (g.0, g.1, f g.0 g.2, g.3)
-goes_map P Q f a b (Refused fault place) g = (g.0, g.1, f g.0 g.2, g.3)
-goes_map P Q f a b (Faulted fault line counts) g = (g.0, g.1, f g.0 g.2, g.3)
-goes_map P Q f a b (StepsOut counts) g = (g.0, g.1, f g.0 g.2, g.3)
-goes_map P Q f a b ReadFault g = (g.0, g.1, f g.0 g.2, g.3)
-goes_map P Q f a b (BadObject fault) g = (g.0, g.1, f g.0 g.2, g.3)
-goes_map P Q f a b (BadCode fault) g = (g.0, g.1, f g.0 g.2, g.3)
-goes_map P Q f a b TooLong g = (g.0, g.1, f g.0 g.2, g.3)
-goes_map P Q f a b (TooMuchCode size) g = (g.0, g.1, f g.0 g.2, g.3)
-
--- a sink that nothing was done to gained nothing
-pub gains_none : (a : SinkSide) → Gains a a []
-gains_none a = record { bytes_are = appends_none a.written; quiet = refl }
-
--- memory was wanted before the first print
-pub goes_starved : (P : Due → Type 0) (a : SinkSide) → Goes P a a Memory
-goes_starved P a = (inl (appends_none a.written), refl)
-
 -- ---- the input
-
--- what is due leaves the input
-moves_none : (P : Due → Type 0) (i : SourceSide) (due : Due) → P due → due.reading ≡ Kept → Moves P i i due
-moves_none P i due o e = (o, subst (λ (r : Reading). Takes r i i) (sym e) refl)
-
--- as an end without a print does
-moves_silent : (P : Due → Type 0) (i : SourceSide) (end : End) → P (silent end) → Moves P i i (silent end)
-moves_silent P i end o = moves_none P i (silent end) o refl
-
--- a call that leaves the input
-pub runs_still : (P : Due → Type 0) → ((due : Due) → P due → due.reading ≡ Kept) → (i : SourceSide) (a b : SinkSide) (end : End)
-    → Goes P a b end → Runs P i i a b end
-runs_still P none i a b end g = inr (inl refl, goes_map P (Moves P i i) (λ due o. moves_none P i due o (none due o)) a b end g)
-
--- memory was wanted before the input was read
-pub runs_starved : (P : Due → Type 0) (i : SourceSide) (a : SinkSide) → Runs P i i a a Memory
-runs_starved P i a = inr (inl refl, goes_starved (Moves P i i) a)
-
--- what may be read by one outcome may be by another
-may_read_map : (P Q : Due → Type 0) → ((due : Due) → P due → Q due) → MayRead P → MayRead Q
-may_read_map P Q f m = (m.0, f m.0 m.1, m.2)
-
-fails_map : (P Q : Due → Type 0) → ((due : Due) → P due → Q due) → (i j : SourceSide) (a b : SinkSide) (end : End)
-    → FailsToRead P i j a b end → FailsToRead Q i j a b end
-fails_map P Q f i j a b end h = (h.0, may_read_map P Q f h.1, h.2, h.3, h.4)
-
-reads_map : (P Q : Due → Type 0) → ((due : Due) → P due → Q due) → (i j : SourceSide) → ReadsOnly P i j → ReadsOnly Q i j
-reads_map P Q f i j (inl e) = inl e
-reads_map P Q f i j (inr h) = inr (may_read_map P Q f h.0, h.1)
-
-moves_map : (P Q : Due → Type 0) → ((due : Due) → P due → Q due) → (i j : SourceSide) (due : Due) → Moves P i j due → Moves Q i j due
-moves_map P Q f i j due m = (f due m.0, m.1)
-
--- a run inside another
-pub runs_map : (P Q : Due → Type 0) → ((due : Due) → P due → Q due) → (i j : SourceSide) (a b : SinkSide) (end : End) → Runs P i j a b end
-    → Runs Q i j a b end
-runs_map P Q f i j a b end (inl h) = inl (fails_map P Q f i j a b end h)
-runs_map P Q f i j a b end (inr h) = inr (reads_map P Q f i j h.0, goes_map (Moves P i j) (Moves Q i j) (moves_map P Q f i j) a b end h.1)
 
 -- code that does not read was run
 pub runs_unread : (code : PlainCode) (steps : ℕ) (showing : Showing) (i : SourceSide) (a b : SinkSide) (end : End) → code_reads code ≡ false
     → Goes (IsDue code [] steps showing) a b end → Runs (InputOutcome i.left code steps showing) i i a b end
 runs_unread code steps showing i a b end quiet g =
-    inr (
-      inl refl,
-      goes_map (IsDue code [] steps showing) (Moves (InputOutcome i.left code steps showing) i i)
-          (λ due e. moves_none (InputOutcome i.left code steps showing) i due (unread quiet e) (ap (λ (d : Due). d.reading) e ∙ ap reading_of quiet)) a b
-          end g,
-    )
-
--- what is read to the end is what was left
-was_left : (old new : Option (List ℕ)) (bytes : List ℕ) → Consumes old new bytes → IsAtEnd new → MayBeLeft old bytes
-was_left None new bytes c e = tt
-was_left (Some xs) None bytes c e = absurd c
-was_left (Some xs) (Some ys) bytes c e = c ∙ ap (λ z. bytes ++ z) e ∙ append-nil bytes
-
--- code that reads has an outcome that reads
-reading_due : (left : Option (List ℕ)) (code : PlainCode) (steps : ℕ) (showing : Showing) → code_reads code ≡ true
-    → MayRead (InputOutcome left code steps showing)
-reading_due None code steps showing q = (code_due code [] steps showing, taken [] q tt (omega arith) refl, inl (ap reading_of q))
-reading_due (Some bytes) code steps showing q = by (cases_lt input_limit (length bytes))
-  where
-    by : (input_limit < length bytes) ⊎ (length bytes ≤ input_limit) → MayRead (InputOutcome (Some bytes) code steps showing)
-    by (inl past) = (long_input, past_input q past refl, inr refl)
-    by (inr short) = (code_due code bytes steps showing, taken bytes q refl short refl, inl (ap reading_of q))
+    runs_map (IsDue code [] steps showing) (InputOutcome i.left code steps showing) (λ due e. unread quiet e) i i a b end
+    (runs_still (IsDue code [] steps showing) (λ due e. ap (λ (d : Due). d.reading) e ∙ ap reading_of quiet) i a b end g)
 
 -- code that reads was run on all that was left
 pub runs_taken : (code : PlainCode) (steps : ℕ) (showing : Showing) (i j : SourceSide) (bytes : List ℕ) (a b : SinkSide) (end : End)
@@ -161,16 +79,27 @@ pub runs_taken : (code : PlainCode) (steps : ℕ) (showing : Showing) (i j : Sou
     → Consumes i.left j.left bytes → IsAtEnd j.left → length bytes ≤ input_limit → j.faults ≡ i.faults
     → Goes (IsDue code bytes steps showing) a b end → Runs (InputOutcome i.left code steps showing) i j a b end
 runs_taken code steps showing i j bytes a b end q c e short same g =
-    let loses : LosesAtMost i.left j.left (input_limit + 1) = (bytes, c, omega (arith, short)) in
-    let left = was_left i.left j.left bytes c e in
-    inr (
-      inr (reading_due i.left code steps showing q, (loses, same)),
-      goes_map (IsDue code bytes steps showing) (Moves (InputOutcome i.left code steps showing) i j)
-          (λ due d. (
-            taken bytes q left short d,
-            subst (λ (r : Reading). Takes r i j) (sym (ap (λ (x : Due). x.reading) d ∙ ap reading_of q)) ((bytes, c, e, short), same),
-          )) a b end g,
-    )
+    let read : Finished ≡ reading_of (code_reads code) = sym (ap reading_of q) in
+    let due = code_due code bytes steps showing in
+    runs_map (IsDue code bytes steps showing) (InputOutcome i.left code steps showing)
+    (λ due d. taken bytes q (was_left i.left j.left bytes c e) short d) i j a b end
+    (runs_by (IsDue code bytes steps showing) i j
+    (λ due d. subst (λ (r : Reading). Takes r i j) (read ∙ sym (ap (λ (x : Due). x.reading) d)) ((bytes, c, e, short), same))
+    (λ file. inr ((shown_in file due, inl (due, refl, read, refl)), ((bytes, c, omega (arith, short)), same))) a b end g)
+
+-- code that reads has an outcome that reads
+reading_due : (file : List ℕ) (left : Option (List ℕ)) (code : PlainCode) (steps : ℕ) (showing : Showing) → code_reads code ≡ true
+    → MayRead (MayCome file (InputOutcome left code steps showing))
+reading_due file None code steps showing q =
+    let due = code_due code [] steps showing in
+    (shown_in file due, inl (due, taken [] q tt (omega arith) refl, sym (ap reading_of q), refl))
+reading_due file (Some bytes) code steps showing q = by (cases_lt input_limit (length bytes))
+  where
+    by : (input_limit < length bytes) ⊎ (length bytes ≤ input_limit) → MayRead (MayCome file (InputOutcome (Some bytes) code steps showing))
+    by (inl past) = (shown_in file long_input, inr (long_input, past_input q past refl, refl, refl))
+    by (inr short) =
+        let due = code_due code bytes steps showing in
+        (shown_in file due, inl (due, taken bytes q refl short refl, sym (ap reading_of q), refl))
 
 -- what reading the input answers where it gives no bytes
 abbrev not_read : ReadAll → Result (Vec ℕ) ReadAll
@@ -183,15 +112,14 @@ pub runs_lost : (code : PlainCode) (steps : ℕ) (showing : Showing) (i j : Sour
     → (not_read error ≡ not_read reading.TooLong → MayHaveMore i.left input_limit)
     → (not_read error ≡ not_read reading.TooLong → LosesBytes i.left j.left (input_limit + 1))
     → Runs (InputOutcome i.left code steps showing) i j a a (input_end error)
-runs_lost code steps showing i j reading.Fault a q loses cause more past =
-    inl (refl, reading_due i.left code steps showing q, loses, (cause.0, cause.1), gains_none a)
-runs_lost code steps showing i j reading.TooLong a q loses cause more past =
-    inr (
-      inr (reading_due i.left code steps showing q, (loses, cause)),
-      (long_input, refl, (past_input q (more refl) refl, (past refl, cause)), gains_none a),
-    )
-runs_lost code steps showing i j reading.Memory a q loses cause more past =
-    inr (inr (reading_due i.left code steps showing q, (loses, cause)), goes_starved (Moves (InputOutcome i.left code steps showing) i j) a)
+runs_lost code steps showing i j reading.Fault a q loses cause more past = λ f file.
+    frame.unread refl refl (files_same f) (reading_due file i.left code steps showing q) loses (cause.0, cause.1) (gains_none a)
+runs_lost code steps showing i j reading.TooLong a q loses cause more past = λ f file.
+    frame.done Passed (shown_in file long_input) (long_input, past_input q (more refl) refl, refl, refl) refl refl (files_same f)
+    (past refl, cause) (gains_none a)
+runs_lost code steps showing i j reading.Memory a q loses cause more past = λ f file.
+    frame.starved refl refl (files_same f) (inr (reading_due file i.left code steps showing q, (loses, cause))) (inl (appends_none a.written))
+    refl
 
 -- ---- sources
 
@@ -206,32 +134,27 @@ stop_refused source fault offset place h line column =
     let same = ap (λ n. place_at n place.column) line ∙ ap (place_at (line_at source offset)) column in
     inr (refused fault offset h (ap (Refused fault) same))
 
--- a call that stops there comes to its end without a print
-runs_source_end : (source : List ℕ) (P : Program → Due → Type 0) (i : SourceSide) (a : SinkSide) (end : End) → IsSourceEnd source end
-    → Runs (SourceOutcome source P) i i a a end
-runs_source_end source P i a end (refused fault offset h e) =
-    subst (Runs (SourceOutcome source P) i i a a) (sym e)
-    (inr (
-      inl refl,
-      (
-        silent (Refused fault (place_of source offset)),
-        refl,
-        moves_silent (SourceOutcome source P) i (Refused fault (place_of source offset))
-            (stopped (Refused fault (place_of source offset)) (refused fault offset h refl) refl),
-        gains_none a,
-      ),
-    ))
-
 pub runs_stopped : (source : List ℕ) (P : Program → Due → Type 0) (i : SourceSide) (a : SinkSide) (end : End) → IsStop source end
     → Runs (SourceOutcome source P) i i a a end
 runs_stopped source P i a end (inl e) = subst (Runs (SourceOutcome source P) i i a a) (sym e) (runs_starved (SourceOutcome source P) i a)
-runs_stopped source P i a end (inr h) = runs_source_end source P i a end h
+runs_stopped source P i a end (inr h) = runs_silent (SourceOutcome source P) i a end (stopped end h refl)
 
 -- a source whose program was run
 pub runs_read : (source : List ℕ) (P : Program → Due → Type 0) (p : Program) (i j : SourceSide) (a b : SinkSide) (end : End)
     → IsProgramOf source p
     → Runs (P p) i j a b end → Runs (SourceOutcome source P) i j a b end
 runs_read source P p i j a b end is g = runs_map (P p) (SourceOutcome source P) (λ due o. compiled p is o) i j a b end g
+
+-- a source that is a program was checked
+pub goes_checked : (source : List ℕ) (p : Program) (a : SinkSide) → IsProgramOf source p
+    → Goes (SourceOutcome source CheckOutcome) a a (Succeeded None)
+goes_checked source p a is = goes_silent (SourceOutcome source CheckOutcome) a (Succeeded None) (compiled p is refl)
+
+-- and one that is none
+pub goes_stopped : (source : List ℕ) (P : Program → Due → Type 0) (a : SinkSide) (end : End) → IsStop source end
+    → Goes (SourceOutcome source P) a a end
+goes_stopped source P a end (inl e) = subst (Goes (SourceOutcome source P) a a) (sym e) (goes_starved (SourceOutcome source P) a)
+goes_stopped source P a end (inr h) = goes_silent (SourceOutcome source P) a end (stopped end h refl)
 
 -- ---- compiling
 
@@ -253,15 +176,7 @@ pub runs_refused : (p : Program) (steps : ℕ) (showing : Showing) (error : Lowe
     → Runs (ProgramOutcome i.left p steps showing) i i a a (lower_end error)
 runs_refused p steps showing error i a (large past e) =
     subst (Runs (ProgramOutcome i.left p steps showing) i i a a) (sym e)
-    (inr (
-      inl refl,
-      (
-        silent (TooMuchCode (size_of p)),
-        refl,
-        moves_silent (ProgramOutcome i.left p steps showing) i (TooMuchCode (size_of p)) (too_much_code past refl),
-        gains_none a,
-      ),
-    ))
+    (runs_silent (ProgramOutcome i.left p steps showing) i a (TooMuchCode (size_of p)) (too_much_code past refl))
 runs_refused p steps showing error i a (starved e) =
     subst (Runs (ProgramOutcome i.left p steps showing) i i a a) (sym e) (runs_starved (ProgramOutcome i.left p steps showing) i a)
 
@@ -289,7 +204,7 @@ goes_listed bytes code a b end clean is same g =
 -- bytes that are no object
 pub goes_not_listed : (bytes : List ℕ) (fault : ObjectFault) (a : SinkSide) → object_fault bytes ≡ Some fault
     → Goes (ListOutcome bytes) a a (BadObject fault)
-goes_not_listed bytes fault a is = (silent (BadObject fault), refl, no_object fault is refl, gains_none a)
+goes_not_listed bytes fault a is = goes_silent (ListOutcome bytes) a (BadObject fault) (no_object fault is refl)
 
 -- listing comes to one outcome
 pub one_listing : (bytes : List ℕ) (first second : Due) → ListOutcome bytes first → ListOutcome bytes second → first ≡ second
@@ -313,15 +228,7 @@ pub runs_unsound : (code : PlainCode) (steps : ℕ) (stats : Bool) (fault : Veri
     → code_fault code ≡ Some fault
     → Runs (CodeOutcome i.left code steps stats) i i a a (BadCode fault)
 runs_unsound code steps stats fault i a is =
-    inr (
-      inl refl,
-      (
-        silent (BadCode fault),
-        refl,
-        moves_silent (CodeOutcome i.left code steps stats) i (BadCode fault) (unsound fault is refl),
-        gains_none a,
-      ),
-    )
+    runs_silent (CodeOutcome i.left code steps stats) i a (BadCode fault) (unsound fault is refl)
 
 -- an object whose code was run
 pub runs_opened : (bytes : List ℕ) (code : PlainCode) (steps : ℕ) (stats : Bool) (i j : SourceSide) (a b : SinkSide) (end : End)
@@ -337,15 +244,7 @@ pub runs_unopened : (bytes : List ℕ) (steps : ℕ) (stats : Bool) (fault : Obj
     → object_fault bytes ≡ Some fault
     → Runs (ExecOutcome i.left bytes steps stats) i i a a (BadObject fault)
 runs_unopened bytes steps stats fault i a is =
-    inr (
-      inl refl,
-      (
-        silent (BadObject fault),
-        refl,
-        moves_silent (ExecOutcome i.left bytes steps stats) i (BadObject fault) (unopened fault is refl),
-        gains_none a,
-      ),
-    )
+    runs_silent (ExecOutcome i.left bytes steps stats) i a (BadObject fault) (unopened fault is refl)
 
 -- running code on an input that is told comes to one outcome
 one_input : (input : List ℕ) (code : PlainCode) (steps : ℕ) (showing : Showing) (first second : Due)
@@ -389,232 +288,83 @@ one_execution input bytes steps stats first second (unopened fault c e) (unopene
 
 -- ---- the files
 
--- files that nothing was done to
-pub files_same : (f : FilesSide) → FilesStay f f
-files_same f = (λ name. refl, refl)
-
 -- what is due from the store of these bytes
 abbrev pub IsStoring : (name bytes : List ℕ) → Due → Type 0
 IsStoring name bytes due = due ≡ storing name bytes
 
--- the bytes under the name
-abbrev stored_as : (name bytes : List ℕ) → StoredFile
-stored_as name bytes = record { name = name; bytes = bytes }
+-- it may come
+may_store : (file name bytes : List ℕ) → MayCome file (IsStoring name bytes) Kept (shown_in file (storing name bytes))
+may_store file name bytes = (storing name bytes, refl, refl, refl)
 
 -- bytes that were stored
-pub works_stored : (f f' : FilesSide) (name bytes : List ℕ) (a : SinkSide) → OthersStay f f' name
-    → NowHas (f.told name) (f'.told name) bytes
-    → f'.store_faults ≡ f.store_faults → Works (IsStoring name bytes) f f' a a (Succeeded None)
-works_stored f f' name bytes a others now same =
-    inr (done (storing name bytes) (stored_as name bytes) refl refl (gains_none a) (others, now, same) refl)
+pub works_stored : (f g : FilesSide) (name bytes : List ℕ) → g.fetch_faults ≡ f.fetch_faults → OthersStay f g name
+    → NowHas (f.told name) (g.told name) bytes
+    → g.store_faults ≡ f.store_faults → Works (IsStoring name bytes) f g (Succeeded None)
+works_stored f g name bytes quiet others now same = λ input out file.
+    frame.done Kept (shown_in file (storing name bytes)) (may_store file name bytes) refl quiet (others, now, same) refl (gains_none out)
 
 -- bytes that were not stored
-pub works_unstored : (f f' : FilesSide) (name bytes : List ℕ) (fault : StoreFault) (a : SinkSide) → OthersStay f f' name
-    → IsStored (f.told name) (f'.told name) bytes f.store_faults f'.store_faults (Err fault)
-    → Works (IsStoring name bytes) f f' a a (store_end fault)
-works_unstored f f' name bytes store.Failed a others h =
-    inr (failed (storing name bytes) (stored_as name bytes) refl refl (gains_none a) (others, (h.0, h.1)) refl)
-works_unstored f f' name bytes store.Memory a others h =
-    inl ((told_stays f f' name others h.0, h.1), goes_starved (Keeps (IsStoring name bytes)) a)
-
--- a course inside another
-pub works_map : (P Q : Due → Type 0) → ((due : Due) → P due → Q due) → (f f' : FilesSide) (a b : SinkSide) (end : End)
-    → Works P f f' a b end → Works Q f f' a b end
-works_map P Q g f f' a b end (inl w) = inl (w.0, goes_map (Keeps P) (Keeps Q) (λ due k. (g due k.0, k.1)) a b end w.1)
-works_map P Q g f f' a b end (inr (done due stored o s gains has e)) = inr (done due stored (g due o) s gains has e)
-works_map P Q g f f' a b end (inr (failed due stored o s gains fails e)) = inr (failed due stored (g due o) s gains fails e)
-
--- a course behind a fetch, which leaves the files
-pub works_after : (P : Due → Type 0) (f m f' : FilesSide) (a b : SinkSide) (end : End) → FilesStay f m → Works P m f' a b end
-    → Works P f f' a b end
-works_after P f m f' a b end s (inl w) = inl ((λ name. w.0.0 name ∙ s.0 name, w.0.1 ∙ s.1), w.1)
-works_after P f m f' a b end s (inr (done due stored o is gains has e)) =
-    inr (done due stored o is gains (
-      λ other ne. has.0 other ne ∙ s.0 other,
-      subst (λ t. NowHas t (f'.told stored.name) stored.bytes) (s.0 stored.name) has.1,
-      has.2 ∙ s.1,
-    ) e)
-works_after P f m f' a b end s (inr (failed due stored o is gains fails e)) =
-    inr (failed due stored o is gains (
-      λ other ne. fails.0 other ne ∙ s.0 other,
-      (subst (λ (n : ℕ). n ≤ f'.store_faults) s.1 fails.1.0, subst (λ (n : ℕ). Rose n f'.store_faults) s.1 fails.1.1),
-    ) e)
+pub works_unstored : (f g : FilesSide) (name bytes : List ℕ) (fault : StoreFault) → g.fetch_faults ≡ f.fetch_faults → OthersStay f g name
+    → IsStored (f.told name) (g.told name) bytes f.store_faults g.store_faults (Err fault)
+    → Works (IsStoring name bytes) f g (store_end fault)
+works_unstored f g name bytes store.Failed quiet others h = λ input out file.
+    frame.unstored Kept (shown_in file (storing name bytes)) (stored_as name bytes) (may_store file name bytes) refl refl quiet others
+    (h.0, h.1) refl (gains_none out)
+works_unstored f g name bytes store.Memory quiet others h = λ input out file.
+    frame.starved refl quiet (told_stays f g name others h.0, h.1) (inl refl) (inl (appends_none out.written)) refl
 
 -- a program that was compiled and stored
-pub works_compiled : (p : Program) (code : PlainCode) (object : List ℕ) (f f' : FilesSide) (a : SinkSide) (end : End) → IsCodeFor p code
+pub works_compiled : (p : Program) (code : PlainCode) (object : List ℕ) (f g : FilesSide) (end : End) → IsCodeFor p code
     → KeepsVersion code → KeepsCounts code → KeepsRecords code → FitsFields code → size_of p ≤ size_limit
-    → Works (IsStoring object (object_bytes code)) f f' a a end → Works (CompileOutcome p object) f f' a a end
-works_compiled p code object f f' a end is version counts records fits within w =
-    let object_is : IsObject code (object_bytes code) =
-    record { version = version; counts = counts; records = records; table = is.sound.table; spelled = refl } in
+    → Works (IsStoring object (object_bytes code)) f g end → Works (CompileOutcome p object) f g end
+works_compiled p code object f g end is version counts records fits within w =
     works_map (IsStoring object (object_bytes code)) (CompileOutcome p object)
-    (λ due e. made code (object_bytes code) within is object_is fits e) f f' a a end w
+    (λ due e. made code (object_bytes code) within is (is_object p code is version counts records) fits e) f g end w
 
 -- a program that was not compiled is not stored
-pub works_refused : (p : Program) (object : List ℕ) (error : LowerError) (f : FilesSide) (a : SinkSide) → IsUnlowered p error
-    → Works (CompileOutcome p object) f f a a (lower_end error)
-works_refused p object error f a (large past e) =
-    inl (
-      files_same f,
-      subst (Goes (Keeps (CompileOutcome p object)) a a) (sym e)
-          (silent (TooMuchCode (size_of p)), refl, (past_size past refl, refl), gains_none a),
-    )
-works_refused p object error f a (starved e) =
-    inl (files_same f, subst (Goes (Keeps (CompileOutcome p object)) a a) (sym e) (goes_starved (Keeps (CompileOutcome p object)) a))
+pub works_refused : (p : Program) (object : List ℕ) (error : LowerError) (f : FilesSide) → IsUnlowered p error
+    → Works (CompileOutcome p object) f f (lower_end error)
+works_refused p object error f (large past e) =
+    subst (Works (CompileOutcome p object) f f) (sym e)
+    (works_silent (CompileOutcome p object) f (TooMuchCode (size_of p)) (past_size past refl))
+works_refused p object error f (starved e) =
+    subst (Works (CompileOutcome p object) f f) (sym e) (works_starved (CompileOutcome p object) f)
 
 -- a source whose program was compiled
-pub works_read : (source : List ℕ) (P : Program → Due → Type 0) (p : Program) (f f' : FilesSide) (a b : SinkSide) (end : End)
-    → IsProgramOf source p
-    → Works (P p) f f' a b end → Works (SourceOutcome source P) f f' a b end
-works_read source P p f f' a b end is w = works_map (P p) (SourceOutcome source P) (λ due o. compiled p is o) f f' a b end w
+pub works_read : (source : List ℕ) (P : Program → Due → Type 0) (p : Program) (f g : FilesSide) (end : End) → IsProgramOf source p
+    → Works (P p) f g end → Works (SourceOutcome source P) f g end
+works_read source P p f g end is w = works_map (P p) (SourceOutcome source P) (λ due o. compiled p is o) f g end w
 
--- ---- what keeps the files, and what leaves the input
+-- and one that has none
+pub works_stopped : (source : List ℕ) (P : Program → Due → Type 0) (f : FilesSide) (end : End) → IsStop source end
+    → Works (SourceOutcome source P) f f end
+works_stopped source P f end (inl e) = subst (Works (SourceOutcome source P) f f) (sym e) (works_starved (SourceOutcome source P) f)
+works_stopped source P f end (inr h) = works_silent (SourceOutcome source P) f end (stopped end h refl)
 
--- a run that may read the input serves a request, where nothing is stored
-pub serves_run : (P : Due → Type 0) → ((due : Due) → P due → due.stored ≡ None)
-    → (f : FilesSide) (i j : SourceSide) (a b : SinkSide) (end : End)
-    → Runs P i j a b end → Serves P f f i j a b end
-serves_run P none f i j a b end (inl h) = inl (files_same f, h)
-serves_run P none f i j a b end (inr h) =
-    inr (h.0, inl (files_same f, goes_map (Moves P i j) (Keeps (Moves P i j)) (λ due m. (m, none due m.0)) a b end h.1))
-
--- a course that leaves the input
-pub serves_still : (P : Due → Type 0) → ((due : Due) → P due → due.reading ≡ Kept)
-    → (f f' : FilesSide) (i : SourceSide) (a b : SinkSide) (end : End)
-    → Works P f f' a b end → Serves P f f' i i a b end
-serves_still P none f f' i a b end w = inr (inl refl, works_map P (Moves P i i) (λ due o. moves_none P i due o (none due o)) f f' a b end w)
-
-input_keeps : (left : Option (List ℕ)) (code : PlainCode) (steps : ℕ) (showing : Showing) (due : Due)
-    → InputOutcome left code steps showing due → due.stored ≡ None
-input_keeps left code steps showing due (unread q e) = ap (λ (d : Due). d.stored) e
-input_keeps left code steps showing due (taken bytes q l s e) = ap (λ (d : Due). d.stored) e
-input_keeps left code steps showing due (past_input q m e) = ap (λ (d : Due). d.stored) e
-
-program_keeps : (left : Option (List ℕ)) (p : Program) (steps : ℕ) (showing : Showing) (due : Due) → ProgramOutcome left p steps showing due
-    → due.stored ≡ None
-program_keeps left p steps showing due (ran code size is_code o) = input_keeps left code steps showing due o
-program_keeps left p steps showing due (too_much_code size e) = ap (λ (d : Due). d.stored) e
-
-pub run_keeps : (left : Option (List ℕ)) (source : List ℕ) (steps : ℕ) (showing : Showing) (due : Due)
-    → SourceOutcome source (λ p. ProgramOutcome left p steps showing) due
-    → due.stored ≡ None
-run_keeps left source steps showing due (stopped end h e) = ap (λ (d : Due). d.stored) e
-run_keeps left source steps showing due (compiled p is o) = program_keeps left p steps showing due o
-
-pub list_keeps : (bytes : List ℕ) (due : Due) → ListOutcome bytes due → due.stored ≡ None
-list_keeps bytes due (listed clean is e) = ap (λ (d : Due). d.stored) e
-list_keeps bytes due (no_object fault is e) = ap (λ (d : Due). d.stored) e
+-- ---- what leaves the input
 
 list_still : (bytes : List ℕ) (due : Due) → ListOutcome bytes due → due.reading ≡ Kept
 list_still bytes due (listed clean is e) = ap (λ (d : Due). d.reading) e
 list_still bytes due (no_object fault is e) = ap (λ (d : Due). d.reading) e
 
-program_still : (p : Program) (object : List ℕ) (due : Due) → CompileOutcome p object due → due.reading ≡ Kept
-program_still p object due (made code bytes size is_code is fits e) = ap (λ (d : Due). d.reading) e
-program_still p object due (past_size size e) = ap (λ (d : Due). d.reading) e
-
-compile_still : (source object : List ℕ) (due : Due) → SourceOutcome source (λ p. CompileOutcome p object) due → due.reading ≡ Kept
-compile_still source object due (stopped end h e) = ap (λ (d : Due). d.reading) e
-compile_still source object due (compiled p is o) = program_still p object due o
-
--- running an object stores nothing
-code_keeps : (left : Option (List ℕ)) (code : PlainCode) (steps : ℕ) (stats : Bool) (due : Due) → CodeOutcome left code steps stats due
-    → due.stored ≡ None
-code_keeps left code steps stats due (executed c o) = input_keeps left code steps (Prints stats) due o
-code_keeps left code steps stats due (unsound fault c e) = ap (λ (d : Due). d.stored) e
-
-pub exec_keeps : (left : Option (List ℕ)) (bytes : List ℕ) (steps : ℕ) (stats : Bool) (due : Due) → ExecOutcome left bytes steps stats due
-    → due.stored ≡ None
-exec_keeps left bytes steps stats due (opened c o) = code_keeps left (object_code bytes) steps stats due o
-exec_keeps left bytes steps stats due (unopened fault c e) = ap (λ (d : Due). d.stored) e
-
-pub serves_exec : (bytes : List ℕ) (steps : ℕ) (stats : Bool) (f : FilesSide) (i j : SourceSide) (a b : SinkSide) (end : End)
-    → Runs (ExecOutcome i.left bytes steps stats) i j a b end → Serves (ExecOutcome i.left bytes steps stats) f f i j a b end
-serves_exec bytes steps stats f i j a b end g =
-    serves_run (ExecOutcome i.left bytes steps stats) (exec_keeps i.left bytes steps stats) f i j a b end g
-
-pub serves_source : (source : List ℕ) (steps : ℕ) (showing : Showing) (f : FilesSide) (i j : SourceSide) (a b : SinkSide) (end : End)
-    → Runs (SourceOutcome source (λ p. ProgramOutcome i.left p steps showing)) i j a b end
-    → Serves (SourceOutcome source (λ p. ProgramOutcome i.left p steps showing)) f f i j a b end
-serves_source source steps showing f i j a b end g =
-    serves_run (SourceOutcome source (λ p. ProgramOutcome i.left p steps showing)) (run_keeps i.left source steps showing) f i j a b end g
-
-pub serves_list : (bytes : List ℕ) (f : FilesSide) (i : SourceSide) (a b : SinkSide) (end : End) → Goes (ListOutcome bytes) a b end
-    → Serves (ListOutcome bytes) f f i i a b end
-serves_list bytes f i a b end g = serves_run (ListOutcome bytes) (list_keeps bytes) f i i a b end
-    (runs_still (ListOutcome bytes) (list_still bytes) i a b end g)
-
-pub serves_compile : (source object : List ℕ) (f f' : FilesSide) (i : SourceSide) (a b : SinkSide) (end : End)
-    → Works (SourceOutcome source (λ p. CompileOutcome p object)) f f' a b end
-    → Serves (SourceOutcome source (λ p. CompileOutcome p object)) f f' i i a b end
-serves_compile source object f f' i a b end w =
-    serves_still (SourceOutcome source (λ p. CompileOutcome p object)) (compile_still source object) f f' i a b end w
-
--- a sample stores nothing and leaves the input
-pub sample_keeps : (lines : ℕ) (due : Due) → SampleOutcome lines due → due.stored ≡ None
-sample_keeps lines due (summed printed status o e) = ap (λ (d : Due). d.stored) e
+pub runs_list : (bytes : List ℕ) (i : SourceSide) (a b : SinkSide) (end : End) → Goes (ListOutcome bytes) a b end
+    → Runs (ListOutcome bytes) i i a b end
+runs_list bytes i a b end g = runs_still (ListOutcome bytes) (list_still bytes) i a b end g
 
 sample_still : (lines : ℕ) (due : Due) → SampleOutcome lines due → due.reading ≡ Kept
 sample_still lines due (summed printed status o e) = ap (λ (d : Due). d.reading) e
 
-pub serves_sample : (lines : ℕ) (f : FilesSide) (i : SourceSide) (a b : SinkSide) (end : End) → Goes (SampleOutcome lines) a b end
-    → Serves (SampleOutcome lines) f f i i a b end
-serves_sample lines f i a b end g = serves_run (SampleOutcome lines) (sample_keeps lines) f i i a b end
-    (runs_still (SampleOutcome lines) (sample_still lines) i a b end g)
-
--- checking a source stores nothing and leaves the input
-pub check_keeps : (source : List ℕ) (due : Due) → SourceOutcome source CheckOutcome due → due.stored ≡ None
-check_keeps source due (stopped end h e) = ap (λ (d : Due). d.stored) e
-check_keeps source due (compiled p is o) = ap (λ (d : Due). d.stored) o
+pub runs_sample : (lines : ℕ) (i : SourceSide) (a b : SinkSide) (end : End) → Goes (SampleOutcome lines) a b end
+    → Runs (SampleOutcome lines) i i a b end
+runs_sample lines i a b end g = runs_still (SampleOutcome lines) (sample_still lines) i a b end g
 
 check_still : (source : List ℕ) (due : Due) → SourceOutcome source CheckOutcome due → due.reading ≡ Kept
 check_still source due (stopped end h e) = ap (λ (d : Due). d.reading) e
 check_still source due (compiled p is o) = ap (λ (d : Due). d.reading) o
 
-pub serves_check : (source : List ℕ) (f : FilesSide) (i : SourceSide) (a : SinkSide) (end : End)
-    → Goes (SourceOutcome source CheckOutcome) a a end
-    → Serves (SourceOutcome source CheckOutcome) f f i i a a end
-serves_check source f i a end g =
-    serves_run (SourceOutcome source CheckOutcome) (check_keeps source) f i i a a end
-    (runs_still (SourceOutcome source CheckOutcome) (check_still source) i a a end g)
-
--- a source that is a program was checked
-pub goes_checked : (source : List ℕ) (p : Program) (a : SinkSide) → IsProgramOf source p
-    → Goes (SourceOutcome source CheckOutcome) a a (Succeeded None)
-goes_checked source p a is = (silent (Succeeded None), refl, compiled p is refl, gains_none a)
-
--- and one that is none
-goes_source_end : (source : List ℕ) (P : Program → Due → Type 0) (a : SinkSide) (end : End) → IsSourceEnd source end
-    → Goes (SourceOutcome source P) a a end
-goes_source_end source P a end (refused fault offset h e) =
-    subst (Goes (SourceOutcome source P) a a) (sym e) (
-      silent (Refused fault (place_of source offset)),
-      refl,
-      stopped (Refused fault (place_of source offset)) (refused fault offset h refl) refl,
-      gains_none a,
-    )
-
-pub goes_stopped : (source : List ℕ) (P : Program → Due → Type 0) (a : SinkSide) (end : End) → IsStop source end
-    → Goes (SourceOutcome source P) a a end
-goes_stopped source P a end (inl e) = subst (Goes (SourceOutcome source P) a a) (sym e) (goes_starved (SourceOutcome source P) a)
-goes_stopped source P a end (inr h) = goes_source_end source P a end h
-
--- a source without a program keeps the files
-source_end_keeps : (source : List ℕ) (P : Program → Due → Type 0) (a : SinkSide) (end : End) → IsSourceEnd source end
-    → Goes (Keeps (SourceOutcome source P)) a a end
-source_end_keeps source P a end (refused fault offset h e) =
-    subst (Goes (Keeps (SourceOutcome source P)) a a) (sym e) (
-      silent (Refused fault (place_of source offset)),
-      refl,
-      (stopped (Refused fault (place_of source offset)) (refused fault offset h refl) refl, refl),
-      gains_none a,
-    )
-
-pub works_stopped : (source : List ℕ) (P : Program → Due → Type 0) (f : FilesSide) (a : SinkSide) (end : End) → IsStop source end
-    → Works (SourceOutcome source P) f f a a end
-works_stopped source P f a end (inl e) =
-    inl (files_same f, subst (Goes (Keeps (SourceOutcome source P)) a a) (sym e) (goes_starved (Keeps (SourceOutcome source P)) a))
-works_stopped source P f a end (inr h) = inl (files_same f, source_end_keeps source P a end h)
+pub runs_check : (source : List ℕ) (i : SourceSide) (a b : SinkSide) (end : End) → Goes (SourceOutcome source CheckOutcome) a b end
+    → Runs (SourceOutcome source CheckOutcome) i i a b end
+runs_check source i a b end g = runs_still (SourceOutcome source CheckOutcome) (check_still source) i a b end g
 
 -- ---- the call
 
@@ -633,104 +383,47 @@ pub fetch_of : (told : Told) (name : List ℕ) (limit : ℕ) (r : Request) (befo
     → IsFetched told name limit before now (Err fault) → IsFetched told name (limit_of r) before now (Err fault)
 fetch_of told name limit r before now fault l h = subst (λ (k : ℕ). IsFetched told name k before now (Err fault)) l h
 
--- a request without a print or a store, where the input stays
-serves_silent : (P : Due → Type 0) (f f' : FilesSide) (i : SourceSide) (a : SinkSide) (end : End) → FilesStay f f'
-    → Goes (Keeps (Moves P i i)) a a end
-    → Serves P f f' i i a a end
-serves_silent P f f' i a end s g = inr (inl refl, inl (s, g))
-
 -- a file that was not fetched
-pub performs_unfetched : (f f' : FilesSide) (r : Request) (name : List ℕ) (fault : Fetch) (i : SourceSide) (a : SinkSide)
-    → read_by r ≡ Some name → FilesStay f f'
-    → IsFetched (f.told name) name (limit_of r) f.fetch_faults f'.fetch_faults (Err fault)
-    → Performs (IsReadBy r) (RequestOutcome f.told i.left r) f f' i i a a (fetch_end fault)
-performs_unfetched f f' r name fetch.Absent i a is s h =
-    inr (
-      h.1,
-      serves_silent (RequestOutcome f.told i.left r) f f' i a ReadFault s (
-        silent ReadFault,
-        refl,
-        (moves_silent (RequestOutcome f.told i.left r) i ReadFault (absent name is h.0 refl), refl),
-        gains_none a,
-      ),
-    )
-performs_unfetched f f' r name fetch.Failed i a is s h = inl ((refl, (name, (h.0, h.1), is), s, gains_none a), refl)
-performs_unfetched f f' r name fetch.TooLong i a is s h =
-    inr (
-      h.1,
-      serves_silent (RequestOutcome f.told i.left r) f f' i a TooLong s (
-        silent TooLong,
-        refl,
-        (moves_silent (RequestOutcome f.told i.left r) i TooLong (past_limit name is h.0 refl), refl),
-        gains_none a,
-      ),
-    )
-performs_unfetched f f' r name fetch.Memory i a is s h =
-    inr (
-      h,
-      serves_silent (RequestOutcome f.told i.left r) f f' i a Memory s
-          (goes_starved (Keeps (Moves (RequestOutcome f.told i.left r) i i)) a),
-    )
-
--- a request inside another
-serves_map : (P Q : Due → Type 0) → ((due : Due) → P due → Q due) → (f f' : FilesSide) (i j : SourceSide) (a b : SinkSide) (end : End)
-    → Serves P f f' i j a b end → Serves Q f f' i j a b end
-serves_map P Q g f f' i j a b end (inl h) = inl (h.0, fails_map P Q g i j a b end h.1)
-serves_map P Q g f f' i j a b end (inr h) =
-    inr (reads_map P Q g i j h.0, works_map (Moves P i j) (Moves Q i j) (moves_map P Q g i j) f f' a b end h.1)
-
--- a request behind a fetch, which leaves the files
-serves_after : (P : Due → Type 0) (f m f' : FilesSide) (i j : SourceSide) (a b : SinkSide) (end : End) → FilesStay f m
-    → Serves P m f' i j a b end
-    → Serves P f f' i j a b end
-serves_after P f m f' i j a b end s (inl h) = inl ((λ name. h.0.0 name ∙ s.0 name, h.0.1 ∙ s.1), h.1)
-serves_after P f m f' i j a b end s (inr h) = inr (h.0, works_after (Moves P i j) f m f' a b end s h.1)
+pub serves_unfetched : (f g : FilesSide) (r : Request) (name : List ℕ) (fault : Fetch) (i : SourceSide) (a : SinkSide)
+    → read_by r ≡ Some name → FilesStay f g
+    → IsFetched (f.told name) name (limit_of r) f.fetch_faults g.fetch_faults (Err fault)
+    → Serves (IsReadBy r) (RequestOutcome f.told i.left r) f g i i a a (fetch_end fault)
+serves_unfetched f g r name fetch.Absent i a is s h = λ file.
+    frame.done Kept (shown_in file (silent ReadFault)) (silent ReadFault, absent name is h.0 refl, refl, refl) refl h.1 s refl (gains_none a)
+serves_unfetched f g r name fetch.Failed i a is s h = λ file. frame.unfetched name is refl (h.0, h.1) s refl (gains_none a)
+serves_unfetched f g r name fetch.TooLong i a is s h = λ file.
+    frame.done Kept (shown_in file (silent TooLong)) (silent TooLong, past_limit name is h.0 refl, refl, refl) refl h.1 s refl (gains_none a)
+serves_unfetched f g r name fetch.Memory i a is s h = λ file.
+    frame.starved refl h s (inl refl) (inl (appends_none a.written)) refl
 
 -- a file that was fetched
-pub performs_fetched : (f m f' : FilesSide) (r : Request) (name bytes : List ℕ) (i j : SourceSide) (a b : SinkSide) (end : End)
-    → read_by r ≡ Some name → FilesStay f m
-    → MayHave (f.told name) bytes → length bytes ≤ limit_of r → m.fetch_faults ≡ f.fetch_faults → f'.fetch_faults ≡ m.fetch_faults
-    → Serves (FileOutcome i.left r bytes) m f' i j a b end → Performs (IsReadBy r) (RequestOutcome f.told i.left r) f f' i j a b end
-performs_fetched f m f' r name bytes i j a b end is s has short q q' w =
-    inr (
-      q' ∙ q,
-      serves_map (FileOutcome i.left r bytes) (RequestOutcome f.told i.left r) (λ due o. fetched name bytes is has short o) f f' i j a b end
-          (serves_after (FileOutcome i.left r bytes) f m f' i j a b end s w),
-    )
+pub serves_fetched : (f g h : FilesSide) (r : Request) (name bytes : List ℕ) (i j : SourceSide) (a b : SinkSide) (end : End)
+    → read_by r ≡ Some name → FilesStay f g
+    → MayHave (f.told name) bytes → length bytes ≤ limit_of r → g.fetch_faults ≡ f.fetch_faults
+    → Serves NoFile (FileOutcome i.left r bytes) g h i j a b end → Serves (IsReadBy r) (RequestOutcome f.told i.left r) f h i j a b end
+serves_fetched f g h r name bytes i j a b end is stay has short quiet s =
+    serves_behind NoFile (IsReadBy r) (FileOutcome i.left r bytes) (RequestOutcome f.told i.left r) (λ other none. absurd none)
+    (λ due o. fetched name bytes is has short o) f g h i j a b end stay quiet s
 
 -- a request that reads no file
-pub performs_alone : (f f' : FilesSide) (r : Request) (i j : SourceSide) (a b : SinkSide) (end : End) → read_by r ≡ None
-    → f'.fetch_faults ≡ f.fetch_faults
-    → Serves (FileOutcome i.left r []) f f' i j a b end → Performs (IsReadBy r) (RequestOutcome f.told i.left r) f f' i j a b end
-performs_alone f f' r i j a b end is q w =
-    inr (q, serves_map (FileOutcome i.left r []) (RequestOutcome f.told i.left r) (λ due o. unfetched is o) f f' i j a b end w)
+pub serves_alone : (f g : FilesSide) (r : Request) (i j : SourceSide) (a b : SinkSide) (end : End) → read_by r ≡ None
+    → Serves NoFile (FileOutcome i.left r []) f g i j a b end → Serves (IsReadBy r) (RequestOutcome f.told i.left r) f g i j a b end
+serves_alone f g r i j a b end is s =
+    serves_behind NoFile (IsReadBy r) (FileOutcome i.left r []) (RequestOutcome f.told i.left r) (λ other none. absurd none)
+    (λ due o. unfetched is o) f f g i j a b end (files_same f) refl s
 
 -- words that are no request
-pub performs_bad : (words : List (List ℕ)) (f : FilesSide) (error : WordsError) (i : SourceSide) (a : SinkSide)
-    → Reads words (Err error) → Performs (AskToRead words) (Outcome words f.told i.left) f f i i a a (words_end error)
-performs_bad ws f (words.Bad k) i a h =
-    inr (
-      refl,
-      serves_silent (Outcome ws f.told i.left) f f i a (BadWord k) (files_same f)
-          (silent (BadWord k), refl, (moves_silent (Outcome ws f.told i.left) i (BadWord k) (bad_word k h refl), refl), gains_none a),
-    )
-performs_bad ws f words.Memory i a h =
-    inr (
-      refl,
-      serves_silent (Outcome ws f.told i.left) f f i a Memory (files_same f)
-          (goes_starved (Keeps (Moves (Outcome ws f.told i.left) i i)) a),
-    )
+pub serves_bad : (words : List (List ℕ)) (f : FilesSide) (error : WordsError) (i : SourceSide) (a : SinkSide)
+    → Reads words (Err error) → Serves (AskToRead words) (Outcome words f.told i.left) f f i i a a (words_end error)
+serves_bad ws f (words.Bad k) i a h = λ file.
+    frame.done Kept (shown_in file (silent (BadWord k))) (silent (BadWord k), bad_word k h refl, refl, refl) refl refl (files_same f) refl
+    (gains_none a)
+serves_bad ws f words.Memory i a h = λ file. course_starved program (AskToRead ws) (MayCome file (Outcome ws f.told i.left)) f i a
 
 -- words that are a request
-pub performs_asked : (words : List (List ℕ)) (request : Request) (f f' : FilesSide) (i j : SourceSide) (a b : SinkSide) (end : End)
-    → Asks words request → Performs (IsReadBy request) (RequestOutcome f.told i.left request) f f' i j a b end
-    → Performs (AskToRead words) (Outcome words f.told i.left) f f' i j a b end
-performs_asked words request f f' i j a b end h (inl p) =
-    let fetch = p.0 in
-    inl ((fetch.0, (fetch.1.0, fetch.1.1, (request, h, fetch.1.2)), fetch.2, fetch.3), p.1)
-performs_asked words request f f' i j a b end h (inr p) =
-    inr (
-      p.0,
-      serves_map (RequestOutcome f.told i.left request) (Outcome words f.told i.left) (λ due o. asks request h o) f f' i j a b end
-          p.1,
-    )
+pub serves_asked : (words : List (List ℕ)) (request : Request) (f g : FilesSide) (i j : SourceSide) (a b : SinkSide) (end : End)
+    → Asks words request → Serves (IsReadBy request) (RequestOutcome f.told i.left request) f g i j a b end
+    → Serves (AskToRead words) (Outcome words f.told i.left) f g i j a b end
+serves_asked words request f g i j a b end h s =
+    serves_behind (IsReadBy request) (AskToRead words) (RequestOutcome f.told i.left request) (Outcome words f.told i.left)
+    (λ name is. (request, h, is)) (λ due o. asks request h o) f f g i j a b end (files_same f) refl s

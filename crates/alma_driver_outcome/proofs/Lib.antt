@@ -1,3 +1,4 @@
+pub mod CourseLemmas
 pub mod DriverLemmas
 pub mod RunLemmas
 pub mod CauseLemmas

@@ -16,6 +16,7 @@ use Rattle.alma_machine.specs.View.{MachineView}
 use Rattle.alma_run_laws.specs.Shown.{size_of, shown_end}
 use Rattle.alma_run_laws.proofs.Fronts.{fresh, HasRun, front_of_more, whole_is_front}
 use Rattle.alma_run_laws.proofs.Meant.{code_shows}
+use Rattle.alma_io.specs.Outside.{Gains}
 use Rattle.alma_io.specs.Sides.{SinkSide}
 use Rattle.alma_driver_outcome.specs.declared.end.Counts.{Counts}
 use Rattle.alma_driver_outcome.specs.Ends.{mode_end, run_end, counts_in}
@@ -24,6 +25,7 @@ use Rattle.alma_driver_outcome.specs.Outcome.{MeansOn, ProgramOutcome, ran, too_
 use Rattle.alma_driver_outcome.specs.Outcome.{TraceMeant, traced_on, trace_too_long, trace_too_large}
 use Rattle.alma_driver_outcome.specs.Showing.{Showing, Prints, Traces}
 use Rattle.alma_driver_outcome.specs.Course.{Goes}
+use Rattle.alma_driver_outcome.proofs.CourseLemmas.{goes_cut, goes_whole, goes_within}
 
 -- ---- a run of the machine
 
@@ -50,52 +52,37 @@ end_is code input new steps stats answer is same =
 abbrev pub IsDue : PlainCode → (input : List ℕ) → (steps : ℕ) → Showing → Due → Type 0
 IsDue code input steps showing due = due ≡ code_due code input steps showing
 
--- a run from the start goes as its code is due
+-- a run that was not cut short goes as its code is due
+goes_over : (code : PlainCode) (input : List ℕ) (new : State) (steps : ℕ) (stats : Bool) (answer : RunEnd) (a b : SinkSide)
+    → answer ≡ run_end_of (state_after code input steps).mode → new ≡ state_after code input steps
+    → Gains a b (printed_by code input steps)
+    → Goes (IsDue code input steps (Prints stats)) a b (run_end answer (line_in code new) (counts_in stats new))
+goes_over code input new steps stats answer a b is same out =
+    goes_whole (IsDue code input steps (Prints stats)) (code_due code input steps (Prints stats)) a b
+    (run_end answer (line_in code new) (counts_in stats new)) refl (end_is code input new steps stats answer is same) refl out
+
+-- a run from the start goes so
 goes_fresh : (code : PlainCode) (input : List ℕ) (new : MachineView) (steps : ℕ) (stats : Bool) (answer : RunEnd) (a b : SinkSide)
     → HasRun (fresh code input) new steps answer a b
     → Goes (IsDue code input steps (Prints stats)) a b (run_end answer (line_in code new.state) (counts_in stats new.state))
-goes_fresh code input new steps stats run.Succeeded a b h = (
-  code_due code input steps (Prints stats),
-  end_is code input new.state steps stats run.Succeeded h.answered h.state,
-  refl,
-  record { bytes_are = h.out; quiet = h.cause.ok },
-)
-goes_fresh code input new steps stats run.Failed a b h = (
-  code_due code input steps (Prints stats),
-  end_is code input new.state steps stats run.Failed h.answered h.state,
-  refl,
-  record { bytes_are = h.out; quiet = h.cause.ok },
-)
-goes_fresh code input new steps stats (run.Fault fault) a b h = (
-  code_due code input steps (Prints stats),
-  end_is code input new.state steps stats (run.Fault fault) h.answered h.state,
-  refl,
-  record { bytes_are = h.out; quiet = h.cause.ok },
-)
-goes_fresh code input new steps stats run.StepsOut a b h = (
-  code_due code input steps (Prints stats),
-  end_is code input new.state steps stats run.StepsOut h.answered h.state,
-  refl,
-  record { bytes_are = h.out; quiet = h.cause.ok },
-)
+goes_fresh code input new steps stats run.Succeeded a b h =
+    goes_over code input new.state steps stats run.Succeeded a b h.answered h.state (record { bytes_are = h.out; quiet = h.cause.ok })
+goes_fresh code input new steps stats run.Failed a b h =
+    goes_over code input new.state steps stats run.Failed a b h.answered h.state (record { bytes_are = h.out; quiet = h.cause.ok })
+goes_fresh code input new steps stats (run.Fault fault) a b h =
+    goes_over code input new.state steps stats (run.Fault fault) a b h.answered h.state (record { bytes_are = h.out; quiet = h.cause.ok })
+goes_fresh code input new steps stats run.StepsOut a b h =
+    goes_over code input new.state steps stats run.StepsOut a b h.answered h.state (record { bytes_are = h.out; quiet = h.cause.ok })
 goes_fresh code input new steps stats run.WriteFault a b h =
-    let le : made (fresh code input) new ≤ steps = omega (arith, h.few) in (
-      code_due code input steps (Prints stats),
-      refl,
-      record {
-        front = front_of_more a.written b.written code input (made (fresh code input) new) steps (start code) le h.write_fault;
-        risen = (h.cause.later, h.cause.err);
-      },
-    )
+    let le : made (fresh code input) new ≤ steps = omega (arith, h.few) in
+    goes_cut (IsDue code input steps (Prints stats)) (code_due code input steps (Prints stats)) a b refl (record {
+      front = front_of_more a.written b.written code input (made (fresh code input) new) steps (start code) le h.write_fault;
+      risen = (h.cause.later, h.cause.err);
+    })
 goes_fresh code input new steps stats run.Memory a b h =
-    let le : made (fresh code input) new ≤ steps = omega (arith, h.few) in (
-      inr (
-        code_due code input steps (Prints stats),
-        refl,
-        whole_is_front a.written b.written code input (made (fresh code input) new) steps (start code) le h.memory,
-      ),
-      h.cause.ok,
-    )
+    let le : made (fresh code input) new ≤ steps = omega (arith, h.few) in
+    goes_within (IsDue code input steps (Prints stats)) (code_due code input steps (Prints stats)) a b refl
+    (whole_is_front a.written b.written code input (made (fresh code input) new) steps (start code) le h.memory) h.cause.ok
 
 pub goes_run : (code : PlainCode) (input : List ℕ) (old new : MachineView) (steps : ℕ) (stats : Bool) (answer : RunEnd) (a b : SinkSide)
     → old ≡ fresh code input

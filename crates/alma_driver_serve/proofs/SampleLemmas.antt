@@ -1,17 +1,22 @@
 -- What the run of a sample comes to.
-use Rattle.std.proofs.Common.{◌≡◌, ◌∙◌, ◌++◌, ℕ, List, [], length, inl, inr, ap, sym, subst}
+use Rattle.std.proofs.Common.{◌≡◌, ◌<◌, ◌∙◌, ◌++◌, ℕ, List, [], length, inl, inr, refl, ap, sym, subst, arith}
 use Rattle.std.specs.Prelude.{false, Option, Some, None, codes}
 use Rattle.alma_driver_words.specs.Sample.{sample_text}
 use Rattle.alma_driver_words.specs.Words.{default_steps}
-use Rattle.alma_io.specs.Sides.{SinkSide, SourceSide}
-use Rattle.alma_driver_outcome.specs.Ends.{status_of, sample_line, summary_line}
+use Rattle.alma_io.specs.Files.{Untold}
+use Rattle.alma_io.specs.Sides.{SinkSide, SourceSide, FilesSide}
+use Rattle.alma_plan.specs.Course.{Course, unfetched, unread, unwritten, unstored, starved, done}
+use Rattle.alma_plan.specs.Plan as plan
+use Rattle.alma_plan.specs.Plan.{Ending}
+use Rattle.alma_plan.proofs.Owns.{IsOwnStatus, own_status}
+use Rattle.alma_driver_outcome.specs.Ends.{ending_in, program, status_of, sample_line, summary_line}
 use Rattle.alma_driver_outcome.specs.Showing.{Prints}
 use Rattle.alma_driver_outcome.specs.Outcome.{Due, due_of, ProgramOutcome, SourceOutcome, IsSampled, SampleOutcome, summed}
-use Rattle.alma_driver_outcome.specs.Course.{Goes, Moves, Runs}
+use Rattle.alma_driver_outcome.specs.Course.{Goes, MayCome, NoFile, Runs}
 use Rattle.alma_driver_outcome.specs.declared.end.End.{End}
-use Rattle.alma_driver_outcome.specs.declared.end.End.TheVariants.{Succeeded, ReadFault, WriteFault, Memory}
-use Rattle.alma_driver_outcome.proofs.DriverLemmas.{goes_map}
-use Rattle.alma_driver_outcome.proofs.CauseLemmas.{Way, broken, starved, ended, way_of}
+use Rattle.alma_driver_outcome.specs.declared.end.End.TheVariants.{Succeeded, Failed, BadWord, Refused, Faulted, StepsOut, ReadFault}
+use Rattle.alma_driver_outcome.specs.declared.end.End.TheVariants.{WriteFault, Memory, BadObject, BadCode, TooLong, TooMuchCode}
+use Rattle.alma_driver_outcome.proofs.CourseLemmas.{goes_map}
 
 -- the sides of a sink and of a source by their parts
 abbrev pub sink_side : Option (List ℕ) → ℕ → SinkSide
@@ -26,22 +31,56 @@ pub record IsOwn (end : End) : Type 0 where
   pub not_write : end ≡ WriteFault → ⊥
   pub not_memory : end ≡ Memory → ⊥
 
+own_statuses : (end : End) → IsOwn end → IsOwnStatus (status_of end)
+own_statuses (Succeeded counts) own = own_status 0 (inl (omega arith))
+own_statuses (Failed counts) own = own_status 1 (inl (omega arith))
+own_statuses (BadWord k) own = own_status 2 (inl (omega arith))
+own_statuses (Refused fault place) own = own_status 3 (inl (omega arith))
+own_statuses (Faulted fault line counts) own = own_status 4 (inl (omega arith))
+own_statuses (StepsOut counts) own = own_status 5 (inl (omega arith))
+own_statuses ReadFault own = absurd (own.not_read refl)
+own_statuses WriteFault own = absurd (own.not_write refl)
+own_statuses Memory own = absurd (own.not_memory refl)
+own_statuses (BadObject fault) own = own_status 9 (inr (omega arith))
+own_statuses (BadCode fault) own = own_status 9 (inr (omega arith))
+own_statuses TooLong own = own_status 10 (inr (omega arith))
+own_statuses (TooMuchCode size) own = own_status 11 (inr (omega arith))
+
 -- the outcome of a run with such an end, in whose place all is that was written
 record Inner (P : Due → Type 0) (printed : List ℕ) (end : End) : Type 0 where
   due : Due
   outcome : P due
   out : due.out ≡ printed
-  end_is : due.end ≡ end
+  end_is : status_of due.end ≡ status_of end
+
+-- files that tell nothing and that nothing was done to
+no_files : FilesSide
+no_files = record { told = λ name. Untold; fetch_faults = λ name. 0; store_faults = 0 }
+
+-- an end as it is told has its status
+told_status : (end : End) (other : Ending) → ending_in [] end ≡ other → status_of end ≡ other.status
+told_status end other e = ap (λ (x : Ending). x.status) e
 
 inner_of : (P : Due → Type 0) (i j : SourceSide) (m n : ℕ) (printed : List ℕ) (end : End) → IsOwn end
     → Runs P i j (sink_side (Some []) m) (sink_side (Some printed) n) end → Inner P printed end
-inner_of P i j m n printed end own (inl h) = absurd (own.not_read h.0)
-inner_of P i j m n printed end own (inr h) = by (way_of (Moves P i j) (sink_side (Some []) m) (sink_side (Some printed) n) end h.1)
+inner_of P i j m n printed end own run = by (run no_files [])
   where
-    by : Way (Moves P i j) (sink_side (Some []) m) (sink_side (Some printed) n) end → Inner P printed end
-    by (broken q due o w) = absurd (own.not_write q)
-    by (starved q g k) = absurd (own.not_memory q)
-    by (ended x y due q o g) = record { due = due; outcome = o.0; out = sym g.bytes_are; end_is = q }
+    statuses : IsOwnStatus (status_of end)
+    statuses = own_statuses end own
+
+    by : Course program NoFile (MayCome [] P) no_files no_files i j (sink_side (Some []) m) (sink_side (Some printed) n) (ending_in [] end)
+        → Inner P printed end
+    by (unfetched name none e risen files input out) = absurd none
+    by (unread e fetches files reads lost risen out) = absurd (statuses.0 (told_status end _ e))
+    by (unwritten r shown may e fetches files takes out) = absurd (statuses.1 (told_status end _ e))
+    by (unstored r shown stored may is e fetches files risen takes out) = absurd (statuses.1 (told_status end _ e))
+    by (starved e fetches files reads out quiet) = absurd (statuses.2 (told_status end _ e))
+    by (done r shown may is fetches files takes out) = record {
+      due = may.0;
+      outcome = may.1;
+      out = sym (ap (λ (d : plan.Due). d.out) may.3) ∙ sym out.bytes_are;
+      end_is = sym (ap (λ (d : plan.Due). d.end.status) may.3) ∙ ap (λ (x : Ending). x.status) is;
+    }
 
 -- what running a source on an empty input comes to
 abbrev pub IsAside : (source : List ℕ) → Due → Type 0
@@ -52,7 +91,7 @@ pub sampled : (source printed : List ℕ) (i j : SourceSide) (m n : ℕ) (end : 
     → Runs (IsAside source) i j (sink_side (Some []) m) (sink_side (Some printed) n) end → IsSampled source (length printed) (status_of end)
 sampled source printed i j m n end own h =
     let x = inner_of (IsAside source) i j m n printed end own h in
-    record { run = x.due; outcome = x.outcome; prints = ap length x.out; ends = ap status_of x.end_is }
+    record { run = x.due; outcome = x.outcome; prints = ap length x.out; ends = x.end_is }
 
 -- the same by what stands for its parts
 pub sampled_by : (source printed told left written : List ℕ) (f m : ℕ) (j : SourceSide) (n : ℕ) (end : End) (status : ℕ) → left ≡ []

@@ -14,7 +14,7 @@ use Rattle.alma_code.specs.ListText.{text_line}
 use Rattle.alma_code.specs.Machine.{State, StepResult, start, step, after}
 use Rattle.alma_code.specs.Plain.{PlainCode}
 use Rattle.alma_code.specs.TraceText.{trace_text, unless_done}
-use Rattle.alma_lower_implements.specs.Implements.{line_in}
+use Rattle.alma_lower_implements.specs.Implements.{state_after, line_in}
 use Rattle.alma_machine.specs.declared.machine.RunEnd.{RunEnd}
 use Rattle.alma_machine.specs.declared.machine.RunEnd.TheVariants as run
 use Rattle.alma_machine.specs.Runs.{run_end_of, made, all_written, OnWhole}
@@ -29,6 +29,7 @@ use Rattle.alma_driver_outcome.specs.Ends.{run_end}
 use Rattle.alma_driver_outcome.specs.Outcome.{Due, code_due}
 use Rattle.alma_driver_outcome.specs.Showing.{Traces}
 use Rattle.alma_driver_outcome.specs.Course.{Goes}
+use Rattle.alma_driver_outcome.proofs.CourseLemmas.{goes_cut, goes_whole, goes_within}
 use Rattle.alma_driver_outcome.proofs.RunLemmas.{IsDue, end_is}
 use Rattle.alma_run_laws.proofs.Fronts.{fresh}
 
@@ -129,53 +130,39 @@ front_traced code input watches m steps a b named le h =
     more.1
     h)
 
--- a traced run from the start goes as its code is due
+-- a traced run that was not cut short goes as its code is due
+goes_over : (code : PlainCode) (input : List ℕ) (new : State) (watches : List Watch) (steps : ℕ) (answer : RunEnd) (a b : SinkSide)
+    → All (IsResolved code) watches → answer ≡ run_end_of (state_after code input steps).mode → new ≡ state_after code input steps
+    → Appends a.written b.written (text_of_run code input watches steps (start code)) → b.faults ≡ a.faults
+    → Goes (IsTraceDue code input watches steps) a b (run_end answer (line_in code new) None)
+goes_over code input new watches steps answer a b named is same out quiet =
+    goes_whole (IsTraceDue code input watches steps) (due_traced code input watches steps) a b (run_end answer (line_in code new) None) refl
+    (end_is code input new steps false answer is same) refl
+    (record { bytes_are = out_traced code input watches steps a.written b.written named out; quiet = quiet })
+
+-- a traced run from the start goes so
 goes_traced : (code : PlainCode) (input : List ℕ) (new : MachineView) (watches : List Watch) (steps : ℕ) (answer : RunEnd) (a b : SinkSide)
     → All (IsResolved code) watches
     → HasTraced (fresh code input) new watches steps answer a b
     → Goes (IsTraceDue code input watches steps) a b (run_end answer (line_in code new.state) None)
-goes_traced code input new watches steps run.Succeeded a b named h = (
-  due_traced code input watches steps,
-  end_is code input new.state steps false run.Succeeded h.answered h.state,
-  refl,
-  record { bytes_are = out_traced code input watches steps a.written b.written named h.out; quiet = h.cause.ok },
-)
-goes_traced code input new watches steps run.Failed a b named h = (
-  due_traced code input watches steps,
-  end_is code input new.state steps false run.Failed h.answered h.state,
-  refl,
-  record { bytes_are = out_traced code input watches steps a.written b.written named h.out; quiet = h.cause.ok },
-)
-goes_traced code input new watches steps (run.Fault fault) a b named h = (
-  due_traced code input watches steps,
-  end_is code input new.state steps false (run.Fault fault) h.answered h.state,
-  refl,
-  record { bytes_are = out_traced code input watches steps a.written b.written named h.out; quiet = h.cause.ok },
-)
-goes_traced code input new watches steps run.StepsOut a b named h = (
-  due_traced code input watches steps,
-  end_is code input new.state steps false run.StepsOut h.answered h.state,
-  refl,
-  record { bytes_are = out_traced code input watches steps a.written b.written named h.out; quiet = h.cause.ok },
-)
+goes_traced code input new watches steps run.Succeeded a b named h =
+    goes_over code input new.state watches steps run.Succeeded a b named h.answered h.state h.out h.cause.ok
+goes_traced code input new watches steps run.Failed a b named h =
+    goes_over code input new.state watches steps run.Failed a b named h.answered h.state h.out h.cause.ok
+goes_traced code input new watches steps (run.Fault fault) a b named h =
+    goes_over code input new.state watches steps (run.Fault fault) a b named h.answered h.state h.out h.cause.ok
+goes_traced code input new watches steps run.StepsOut a b named h =
+    goes_over code input new.state watches steps run.StepsOut a b named h.answered h.state h.out h.cause.ok
 goes_traced code input new watches steps run.WriteFault a b named h =
-    let le : made (fresh code input) new ≤ steps = omega (arith, h.few) in (
-      due_traced code input watches steps,
-      refl,
-      record {
-        front = front_traced code input watches (made (fresh code input) new) steps a.written b.written named le h.front;
-        risen = (h.cause.later, h.cause.err);
-      },
-    )
+    let le : made (fresh code input) new ≤ steps = omega (arith, h.few) in
+    goes_cut (IsTraceDue code input watches steps) (due_traced code input watches steps) a b refl (record {
+      front = front_traced code input watches (made (fresh code input) new) steps a.written b.written named le h.front;
+      risen = (h.cause.later, h.cause.err);
+    })
 goes_traced code input new watches steps run.Memory a b named h =
-    let le : made (fresh code input) new ≤ steps = omega (arith, h.few) in (
-      inr (
-        due_traced code input watches steps,
-        refl,
-        front_traced code input watches (made (fresh code input) new) steps a.written b.written named le h.front,
-      ),
-      h.cause.ok,
-    )
+    let le : made (fresh code input) new ≤ steps = omega (arith, h.few) in
+    goes_within (IsTraceDue code input watches steps) (due_traced code input watches steps) a b refl
+    (front_traced code input watches (made (fresh code input) new) steps a.written b.written named le h.front) h.cause.ok
 
 pub goes_trace : (code : PlainCode) (input : List ℕ) (old new : MachineView) (watches : List Watch) (steps : ℕ) (answer : RunEnd)
     (a b : SinkSide) → old ≡ fresh code input

@@ -7,7 +7,6 @@ ghost use Rattle.alma_object.specs.Fields.{FitsFields};
 ghost use Rattle.alma_object.specs.Object.{object_bytes};
 ghost use Rattle.alma_ir.specs.View.{program_of};
 ghost use Rattle.alma_ir.specs.Checked.{IsChecked};
-ghost use Rattle.alma_io.specs.Sides.{SinkSide};
 ghost use Rattle.alma_driver_outcome.specs.Outcome.{storing, CompileOutcome, SourceOutcome};
 ghost use Rattle.alma_driver_outcome.specs.Course.{Works};
 
@@ -24,10 +23,8 @@ use std::alloc::Global;
 
 // Stores bytes under a name.
 fn store_object<F: Files>(alloc: Global, object: &str, bytes: &[u8], files: &mut F) -> End
-    ensures fetch_count { (F.side files.new).fetch_faults ≡ (F.side files.old).fetch_faults }
-    ensures course { (out : SinkSide) → Works (λ due. due ≡ storing object.now bytes.now)
-        (F.side files.old) (F.side files.new)
-        out out result }
+    ensures { Works (λ due. due ≡ storing object.now bytes.now)
+        (F.side files.old) (F.side files.new) result }
 {
     match files.store(alloc, object, bytes) {
         Ok(()) => End::Succeeded(None),
@@ -39,11 +36,8 @@ fn store_object<F: Files>(alloc: Global, object: &str, bytes: &[u8], files: &mut
 fn store_code<F: Files>(alloc: Global, code: &Code, object: &str, files: &mut F) -> End
     requires { KeepsCounts (code_of code.now) }
     ensures fields { FitsFields (code_of code.now) }
-    ensures fetch_count { (F.side files.new).fetch_faults ≡ (F.side files.old).fetch_faults }
-    ensures course { (out : SinkSide) → Works (λ due. due ≡ storing object.now
-        (object_bytes (code_of code.now)))
-        (F.side files.old) (F.side files.new)
-        out out result }
+    ensures course { Works (λ due. due ≡ storing object.now (object_bytes (code_of code.now)))
+        (F.side files.old) (F.side files.new) result }
 {
     fits_fields(code);
     match encode(alloc, code) {
@@ -55,10 +49,8 @@ fn store_code<F: Files>(alloc: Global, code: &Code, object: &str, files: &mut F)
 // Compiles a program, and stores its object.
 fn compile_program<F: Files>(alloc: Global, program: &Program, object: &str, files: &mut F) -> End
     requires checked { IsChecked (program_of program.now) }
-    ensures fetch_count { (F.side files.new).fetch_faults ≡ (F.side files.old).fetch_faults }
-    ensures course { (out : SinkSide) → Works (CompileOutcome (program_of program.now) object.now)
-        (F.side files.old) (F.side files.new)
-        out out result }
+    ensures { Works (CompileOutcome (program_of program.now) object.now)
+        (F.side files.old) (F.side files.new) result }
 {
     match lower(alloc, program) {
         Ok(code) => store_code(alloc, &code, object, files),
@@ -69,11 +61,8 @@ fn compile_program<F: Files>(alloc: Global, program: &Program, object: &str, fil
 /// Compiles a source, and stores its object under a name. Nothing is printed.
 pub fn compile_source<F: Files>(alloc: Global, source: &[u8], object: &str, files: &mut F) -> End
     requires short { length source.now ≤ source_limit }
-    ensures fetch_count { (F.side files.new).fetch_faults ≡ (F.side files.old).fetch_faults }
-    ensures course { (out : SinkSide) → Works (SourceOutcome source.now
-        (λ p. CompileOutcome p object.now))
-        (F.side files.old) (F.side files.new)
-        out out result }
+    ensures { Works (SourceOutcome source.now (λ p. CompileOutcome p object.now))
+        (F.side files.old) (F.side files.new) result }
 {
     match load_source(alloc, source) {
         Ok(program) => compile_program(alloc, &program, object, files),

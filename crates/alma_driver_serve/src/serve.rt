@@ -4,7 +4,7 @@ ghost use Rattle.alma_driver_words.specs.Words.{request_of, texts};
 ghost use Rattle.alma_driver_words.specs.Limits.{IsWithinLimits};
 ghost use Rattle.alma_driver_outcome.specs.Words.{limit_of, read_by, IsReadBy};
 ghost use Rattle.alma_driver_outcome.specs.Outcome.{FileOutcome, RequestOutcome, Outcome, AskToRead};
-ghost use Rattle.alma_driver_outcome.specs.Course.{Serves, Performs};
+ghost use Rattle.alma_driver_outcome.specs.Course.{NoFile, Serves};
 
 use crate::compile::compile_source;
 use crate::exec::exec_object;
@@ -29,8 +29,8 @@ fn serve_file<F: Files, I: Source, O: Sink>(
 ) -> End
     requires within { IsWithinLimits (request_of request.now) }
     requires short { length bytes.now ≤ limit_of (request_of request.now) }
-    ensures fetch_count { (F.side files.new).fetch_faults ≡ (F.side files.old).fetch_faults }
-    ensures course { Serves (FileOutcome (I.side input.old).left (request_of request.now) bytes.now)
+    ensures { Serves NoFile
+        (FileOutcome (I.side input.old).left (request_of request.now) bytes.now)
         (F.side files.old) (F.side files.new) (I.side input.old) (I.side input.new) (O.side out.old)
         (O.side out.new) result }
 {
@@ -58,7 +58,7 @@ fn serve_named<F: Files, I: Source, O: Sink>(
 ) -> End
     requires within { IsWithinLimits (request_of request.now) }
     requires read { read_by (request_of request.now) ≡ Some file.now }
-    ensures { Performs (IsReadBy (request_of request.now))
+    ensures { Serves (IsReadBy (request_of request.now))
         (RequestOutcome (F.side files.old).told (I.side input.old).left (request_of request.now))
         (F.side files.old) (F.side files.new) (I.side input.old) (I.side input.new) (O.side out.old)
         (O.side out.new) result }
@@ -78,7 +78,7 @@ fn serve<F: Files, I: Source, O: Sink>(
     out: &mut O,
 ) -> End
     requires { IsWithinLimits (request_of request.now) }
-    ensures { Performs (IsReadBy (request_of request.now))
+    ensures { Serves (IsReadBy (request_of request.now))
         (RequestOutcome (F.side files.old).told (I.side input.old).left (request_of request.now))
         (F.side files.old) (F.side files.new) (I.side input.old) (I.side input.new) (O.side out.old)
         (O.side out.new) result }
@@ -98,7 +98,7 @@ pub fn perform<F: Files, I: Source, O: Sink>(
     input: &mut I,
     out: &mut O,
 ) -> End
-    ensures { Performs (AskToRead (texts words.now))
+    ensures { Serves (AskToRead (texts words.now))
         (Outcome (texts words.now) (F.side files.old).told (I.side input.old).left)
         (F.side files.old) (F.side files.new) (I.side input.old) (I.side input.new) (O.side out.old)
         (O.side out.new) result }

@@ -118,6 +118,12 @@ module _ (program : List ℕ) (A B : List ℕ → Type 0) (P Q : Reading → Due
   course_map asked map f g h i j o p end stay quiet (done r due may is fetches files takes out) =
       done r due (map r due may) is (fetches ∙ quiet) (become_behind f g h due.stored stay files) takes out
 
+-- what is read to the end is what was left
+pub was_left : (old new : Option (List ℕ)) (bytes : List ℕ) → Consumes old new bytes → IsAtEnd new → MayBeLeft old bytes
+was_left None new bytes c e = tt
+was_left (Some xs) None bytes c e = absurd c
+was_left (Some xs) (Some ys) bytes c e = c ∙ ap (λ z. bytes ++ z) e ∙ append-nil bytes
+
 module _ {V L : Type 0} (sense : Sense V L) (program : List ℕ) where
   -- a file was fetched
   pub course_fetched : (name : List ℕ) (limit : ℕ) (next : List ℕ → Plan V L) (bytes : List ℕ) (f g h : FilesSide) (i j : SourceSide)
@@ -154,12 +160,6 @@ module _ {V L : Type 0} (sense : Sense V L) (program : List ℕ) where
       course_map program (Asks sense f.told (next verdict)) (Asks sense f.told (Judges source next))
       (Comes sense program f.told i.left (next verdict)) (Comes sense program f.told i.left (Judges source next))
       (λ asked asks. (verdict, is, asks)) (λ r due comes. (verdict, is, comes)) f f h i j o p end (files_same f) refl course
-
-  -- what is read to the end is what was left
-  was_left : (old new : Option (List ℕ)) (bytes : List ℕ) → Consumes old new bytes → IsAtEnd new → MayBeLeft old bytes
-  was_left None new bytes c e = tt
-  was_left (Some xs) None bytes c e = absurd c
-  was_left (Some xs) (Some ys) bytes c e = c ∙ ap (λ z. bytes ++ z) e ∙ append-nil bytes
 
   -- a plan that reads the input has something that comes and does
   reading_due : (told : List ℕ → Told) (left : Option (List ℕ)) (last : List ℕ → L)

@@ -7,7 +7,7 @@ pub mod UndisturbedLemmas
 mod TextLemmas
 mod Running
 mod Sizes
-mod Storing
+pub mod Storing
 pub mod Sources
 pub mod Owns
 pub mod MeantLemmas

@@ -6,14 +6,13 @@ use Rattle.alma_driver_serve.proofs.compile.compile_source.Goals as goal
 pub compile_program-requires : goal.compile_program-requires
 compile_program-requires g c = record { checked = c.in-Ok.ensures.checked }
 
-pub returns-in-Ok-clause-course : goal.returns-in-Ok-clause-course
-returns-in-Ok-clause-course g c = λ out.
+pub returns-in-Ok : goal.returns-in-Ok
+returns-in-Ok g c =
     works_read c.args.source.now (λ p. CompileOutcome p c.args.object.now) (program_of c.in-Ok.program)
-    (g.F.Files.side c.args.files.now)
-    (g.F.Files.side c.compile_program.new.files)
-    out out c.compile_program.result c.in-Ok.ensures.program (c.compile_program.ensures.course out)
+    (g.F.Files.side c.args.files.now) (g.F.Files.side c.compile_program.new.files)
+    c.compile_program.result c.in-Ok.ensures.program c.compile_program.ensures
 
-pub returns-in-Err-clause-course : goal.returns-in-Err-clause-course
-returns-in-Err-clause-course g c = λ out.
-    works_stopped c.args.source.now (λ p. CompileOutcome p c.args.object.now)
-    (g.F.Files.side c.args.files.now) out c.in-Err.end c.in-Err.ensures.stop
+pub returns-in-Err : goal.returns-in-Err
+returns-in-Err g c =
+    works_stopped c.args.source.now (λ p. CompileOutcome p c.args.object.now) (g.F.Files.side c.args.files.now) c.in-Err.end
+    c.in-Err.ensures.stop

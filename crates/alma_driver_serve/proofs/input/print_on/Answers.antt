@@ -4,7 +4,7 @@ use Rattle.alma_verify.specs.Verified.{code_of_verified}
 use Rattle.alma_lower_implements.specs.Implements.{line_in}
 use Rattle.alma_driver_outcome.specs.Ends.{run_end, counts_in}
 use Rattle.alma_driver_outcome.specs.Showing.{Prints}
-use Rattle.alma_driver_outcome.proofs.DriverLemmas.{goes_starved}
+use Rattle.alma_driver_outcome.proofs.CourseLemmas.{goes_starved}
 use Rattle.alma_driver_outcome.proofs.RunLemmas.{IsDue, goes_run}
 use Rattle.alma_driver_serve.proofs.input.print_on.Goals as goal
 

@@ -1,5 +1,6 @@
 use Rattle.alma_code.specs.Plain.{code_of}
-use Rattle.alma_driver_outcome.proofs.DriverLemmas.{IsListed, goes_starved}
+use Rattle.alma_driver_outcome.proofs.DriverLemmas.{IsListed}
+use Rattle.alma_driver_outcome.proofs.CourseLemmas.{goes_starved}
 use Rattle.alma_driver_serve.proofs.list.list_code.Goals as goal
 
 pub returns-in-Ok : goal.returns-in-Ok

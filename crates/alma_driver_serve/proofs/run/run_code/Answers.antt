@@ -3,7 +3,7 @@ use Rattle.alma_code.specs.Plain.{PlainCode, code_of}
 use Rattle.alma_driver_outcome.specs.Course.{Runs}
 use Rattle.alma_driver_outcome.specs.Outcome.{InputOutcome}
 use Rattle.alma_driver_outcome.specs.Showing.{shown_of}
-use Rattle.alma_driver_outcome.proofs.DriverLemmas.{runs_starved}
+use Rattle.alma_driver_outcome.proofs.CourseLemmas.{runs_starved}
 use Rattle.alma_driver_serve.proofs.run.run_code.Goals as goal
 
 pub open_encoded-verified-requires-clause-object : goal.open_encoded-verified-requires-clause-object

@@ -1,6 +1,6 @@
 use Rattle.std.proofs.Common.{◌∙◌}
 use Rattle.alma_driver_outcome.specs.Outcome.{SampleOutcome}
-use Rattle.alma_driver_outcome.proofs.DriverLemmas.{goes_starved}
+use Rattle.alma_driver_outcome.proofs.CourseLemmas.{goes_starved}
 use Rattle.alma_driver_serve.proofs.sample.sample.Goals as goal
 
 pub sum_up-requires-clause-text : goal.sum_up-requires-clause-text

@@ -1,5 +1,5 @@
 use Rattle.alma_driver_outcome.specs.Outcome.{SampleOutcome}
-use Rattle.alma_driver_outcome.proofs.DriverLemmas.{goes_starved}
+use Rattle.alma_driver_outcome.proofs.CourseLemmas.{goes_starved}
 use Rattle.alma_driver_serve.proofs.SampleLemmas.{goes_summed}
 use Rattle.alma_driver_serve.proofs.sample.sum_up.Goals as goal
 

@@ -1,5 +1,5 @@
 use Rattle.alma_driver_words.specs.Words.{request_of}
-use Rattle.alma_driver_outcome.proofs.DriverLemmas.{limit_small, fetch_of, performs_fetched, performs_unfetched}
+use Rattle.alma_driver_outcome.proofs.DriverLemmas.{limit_small, fetch_of, serves_fetched, serves_unfetched}
 use Rattle.alma_driver_serve.proofs.serve.serve_named.Goals as goal
 
 pub fetch-requires : goal.fetch-requires
@@ -11,18 +11,18 @@ serve_file-requires-clause-short g c = rw (c.deref.ensures.value) (rw c.read_lim
 pub returns-in-Ok : goal.returns-in-Ok
 returns-in-Ok g c =
     let got = rw c.read_limit.ensures at c.in-Ok.ensures.answer in
-    performs_fetched (g.F.Files.side c.args.files.now)
+    serves_fetched (g.F.Files.side c.args.files.now)
     (g.F.Files.side c.fetch.new.self)
     (g.F.Files.side c.serve_file.new.files)
     (request_of c.args.request.now) c.args.file.now c.in-Ok.bytes.items (g.I.Source.side c.args.input.now)
     (g.I.Source.side c.serve_file.new.input) (g.O.Sink.side c.args.out.now)
     (g.O.Sink.side c.serve_file.new.out) c.serve_file.result c.requires.read
-    (c.in-Ok.ensures.same, c.in-Ok.ensures.store_count) got.0 got.1 got.2 c.serve_file.ensures.fetch_count
-    (rw c.deref.ensures.value at c.serve_file.ensures.course)
+    (c.in-Ok.ensures.same, c.in-Ok.ensures.store_count) got.0 got.1 got.2
+    (rw c.deref.ensures.value at c.serve_file.ensures)
 
 pub returns-in-Err : goal.returns-in-Err
 returns-in-Err g c =
-    rw c.from.ensures (performs_unfetched (g.F.Files.side c.args.files.now)
+    rw c.from.ensures (serves_unfetched (g.F.Files.side c.args.files.now)
     (g.F.Files.side c.fetch.new.self)
     (request_of c.args.request.now) c.args.file.now c.in-Err.fault (g.I.Source.side c.args.input.now) (g.O.Sink.side c.args.out.now)
     c.requires.read

@@ -3,7 +3,7 @@ use Rattle.std.specs.Borrow.{Bor}
 use Rattle.alma_verify.specs.Verified.{code_of_verified}
 use Rattle.alma_driver_outcome.specs.Course.{Goes}
 use Rattle.alma_driver_outcome.specs.Showing.{Traces}
-use Rattle.alma_driver_outcome.proofs.DriverLemmas.{goes_starved}
+use Rattle.alma_driver_outcome.proofs.CourseLemmas.{goes_starved}
 use Rattle.alma_driver_outcome.proofs.RunLemmas.{IsDue}
 use Rattle.alma_driver_serve.proofs.trace.trace_on.Goals as goal
 

@@ -8,7 +8,7 @@ use Rattle.alma_trace.proofs.Resolving.{resolved_are_of_module}
 use Rattle.alma_verify.specs.Verified.{code_of_verified}
 use Rattle.alma_driver_outcome.specs.Ends.{run_end}
 use Rattle.alma_driver_outcome.specs.Showing.{Traces}
-use Rattle.alma_driver_outcome.proofs.DriverLemmas.{goes_starved}
+use Rattle.alma_driver_outcome.proofs.CourseLemmas.{goes_starved}
 use Rattle.alma_driver_outcome.proofs.RunLemmas.{IsDue}
 use Rattle.alma_driver_serve.proofs.TraceLemmas.{goes_trace, names_of}
 use Rattle.alma_driver_serve.proofs.trace.trace_watched.Goals as goal
