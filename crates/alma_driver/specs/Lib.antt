@@ -1,2 +1,2 @@
-pub use Rattle.alma_driver_outcome.specs.Causes
+pub use Rattle.alma_driver_outcome.specs.Scope
 pub use Rattle.alma_driver_outcome.specs.Headline

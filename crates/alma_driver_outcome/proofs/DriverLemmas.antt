@@ -1,5 +1,5 @@
 -- From what the parts of a call ensure to how the call may go.
-use Rattle.std.proofs.Common.{◌+◌, ◌++◌, ◌≡◌, ◌≤◌, ◌<◌, ◌^◌, ◌∙◌, ℕ, List, [], length, ap, sym, subst, refl, inl, inr, arith}
+use Rattle.std.proofs.Common.{◌+◌, ◌≡◌, ◌≤◌, ◌<◌, ◌^◌, ◌∙◌, ℕ, List, [], length, ap, sym, subst, refl, inl, inr, arith}
 use Rattle.std.specs.Prelude.{◌⊎◌, Bool, true, false, Option, Result, Err, None, Some}
 use Rattle.std.specs.Global.{Vec}
 use Rattle.std.proofs.lemmas.Bool.{cases_lt}
@@ -8,7 +8,6 @@ use Rattle.std.specs.Io.KnownBytes.{Consumes, IsAtEnd}
 use Rattle.alma_io.specs.Whole.{MayHaveMore, LosesAtMost, LosesBytes, HasReadCause}
 use Rattle.alma_io.specs.declared.whole.ReadAll.{ReadAll}
 use Rattle.alma_io.specs.declared.whole.ReadAll.TheVariants as reading
-use Rattle.alma_io.specs.Causes.{Rose}
 use Rattle.alma_io.specs.Files.{Told, MayHave, NowHas, IsFetched, IsStored}
 use Rattle.alma_io.specs.declared.files.Fetch.{Fetch}
 use Rattle.alma_io.specs.declared.files.Fetch.TheVariants as fetch
@@ -37,10 +36,10 @@ use Rattle.alma_driver_words.specs.Words.{Request, Check, Compile, Listing, Run,
 use Rattle.alma_driver_outcome.specs.Words.{read_by, limit_of, IsReadBy}
 use Rattle.alma_driver_outcome.specs.Showing.{Showing, Prints}
 use Rattle.alma_io.specs.Sides.{SinkSide, SourceSide, FilesSide}
-use Rattle.alma_io.specs.Outside.{FilesStay, StoredFile, OthersStay, MayBeLeft, Gains}
+use Rattle.alma_io.specs.Outside.{FilesStay, OthersStay}
 use Rattle.alma_base.specs.declared.place.Place.{Place}
 use Rattle.alma_scan.specs.Places.{line_at, column_at}
-use Rattle.alma_source.specs.Refusal.{IsRefused, IsProgramOf, place_of}
+use Rattle.alma_source.specs.Refusal.{IsRefused, IsProgramOf}
 use Rattle.alma_source.specs.declared.fault.SourceFault.{SourceFault}
 use Rattle.alma_driver_outcome.specs.Ends.{lower_end, words_end, fetch_end, store_end, input_end, program}
 use Rattle.alma_plan.specs.Course as frame
@@ -50,15 +49,15 @@ use Rattle.alma_plan.proofs.Courses.{course_starved, files_same, gains_none, was
 use Rattle.alma_plan.proofs.Storing.{is_object, stored_as}
 use Rattle.alma_driver_outcome.specs.Outcome.{Due, due_of, silent, storing, code_due, long_input, reading_of, InputOutcome, unread}
 use Rattle.alma_driver_outcome.specs.Outcome.{taken, past_input, ProgramOutcome, ran, too_much_code, CompileOutcome, made}
-use Rattle.alma_driver_outcome.specs.Outcome.{past_size, IsSourceEnd, refused, IsStop, SourceOutcome, stopped, compiled, CheckOutcome}
+use Rattle.alma_driver_outcome.specs.Outcome.{past_size, refused, IsStop, SourceOutcome, stopped, compiled, CheckOutcome}
 use Rattle.alma_driver_outcome.specs.Outcome.{ListOutcome, listed, no_object, CodeOutcome, executed, unsound, ExecOutcome, opened, unopened}
 use Rattle.alma_driver_outcome.specs.Outcome.{FileOutcome, SampleOutcome, summed, RequestOutcome, absent, past_limit, fetched, unfetched}
 use Rattle.alma_driver_outcome.specs.Outcome.{Outcome, bad_word, asks, AskToRead}
 use Rattle.alma_driver_words.specs.declared.words.WordsError.{WordsError}
 use Rattle.alma_driver_words.specs.declared.words.WordsError.TheVariants as words
 use Rattle.alma_driver_outcome.specs.declared.end.End.{End}
-use Rattle.alma_driver_outcome.specs.declared.end.End.TheVariants.{Succeeded, Failed, BadWord, Refused, Faulted, StepsOut, ReadFault}
-use Rattle.alma_driver_outcome.specs.declared.end.End.TheVariants.{WriteFault, Memory, BadObject, BadCode, TooLong, TooMuchCode}
+use Rattle.alma_driver_outcome.specs.declared.end.End.TheVariants.{Succeeded, BadWord, Refused, ReadFault}
+use Rattle.alma_driver_outcome.specs.declared.end.End.TheVariants.{Memory, BadObject, BadCode, TooLong, TooMuchCode}
 use Rattle.alma_driver_outcome.specs.Course.{Goes, MayCome, NoFile, Runs, Serves, Works, shown_in}
 use Rattle.alma_driver_outcome.proofs.CourseLemmas.{goes_map, goes_silent, goes_starved, serves_behind, runs_map, runs_by, runs_still}
 use Rattle.alma_driver_outcome.proofs.CourseLemmas.{runs_starved, runs_silent, works_map, works_starved, works_silent}
@@ -118,8 +117,8 @@ runs_lost code steps showing i j reading.TooLong a q loses cause more past = λ 
     frame.done Passed (shown_in file long_input) (long_input, past_input q (more refl) refl, refl, refl) refl refl (files_same f)
     (past refl, cause) (gains_none a)
 runs_lost code steps showing i j reading.Memory a q loses cause more past = λ f file.
-    frame.starved refl refl (files_same f) (inr (reading_due file i.left code steps showing q, (loses, cause))) (inl (appends_none a.written))
-    refl
+    frame.starved refl refl (files_same f) (inr (reading_due file i.left code steps showing q, (loses, cause)))
+    (inl (appends_none a.written)) refl
 
 -- ---- sources
 
@@ -389,10 +388,12 @@ pub serves_unfetched : (f g : FilesSide) (r : Request) (name : List ℕ) (fault 
     → IsFetched (f.told name) name (limit_of r) f.fetch_faults g.fetch_faults (Err fault)
     → Serves (IsReadBy r) (RequestOutcome f.told i.left r) f g i i a a (fetch_end fault)
 serves_unfetched f g r name fetch.Absent i a is s h = λ file.
-    frame.done Kept (shown_in file (silent ReadFault)) (silent ReadFault, absent name is h.0 refl, refl, refl) refl h.1 s refl (gains_none a)
+    frame.done Kept (shown_in file (silent ReadFault)) (silent ReadFault, absent name is h.0 refl, refl, refl) refl h.1 s refl
+    (gains_none a)
 serves_unfetched f g r name fetch.Failed i a is s h = λ file. frame.unfetched name is refl (h.0, h.1) s refl (gains_none a)
 serves_unfetched f g r name fetch.TooLong i a is s h = λ file.
-    frame.done Kept (shown_in file (silent TooLong)) (silent TooLong, past_limit name is h.0 refl, refl, refl) refl h.1 s refl (gains_none a)
+    frame.done Kept (shown_in file (silent TooLong)) (silent TooLong, past_limit name is h.0 refl, refl, refl) refl h.1 s refl
+    (gains_none a)
 serves_unfetched f g r name fetch.Memory i a is s h = λ file.
     frame.starved refl h s (inl refl) (inl (appends_none a.written)) refl
 

@@ -1,6 +1,6 @@
 -- The headline: a run of a source shows what its program means.
-use Rattle.std.proofs.Common.{◌≡◌, ◌≤◌, ◌+◌, ◌*◌, ◌∙◌, ◌++◌, ℕ, suc, List, [], length, refl, inl, inr, ap, sym, subst, arith}
-use Rattle.std.specs.Prelude.{◌⊎◌, Bool, true, Option, Some}
+use Rattle.std.proofs.Common.{◌≡◌, ◌≤◌, ◌+◌, ◌*◌, ◌∙◌, ◌++◌, ℕ, suc, List, [], length, refl, ap, sym, subst, arith}
+use Rattle.std.specs.Prelude.{Bool, true, Option, Some}
 use Rattle.alma_base.specs.Limits.{source_limit, size_limit, input_limit}
 use Rattle.alma_io.specs.Files.{Told, Has, MayHave, MayPass}
 use Rattle.alma_io.specs.Whole.{MayHaveMore}
@@ -189,7 +189,8 @@ not_lacking words before source input steps stats a l =
 -- ---- the headline
 
 -- what is due by what may come
-came : (words : List (List ℕ)) (before after : Outside) (status : ℕ) → IsWhole (MayCome (file_of words) (DueOf words before)) before after status
+came : (words : List (List ℕ)) (before after : Outside) (status : ℕ)
+    → IsWhole (MayCome (file_of words) (DueOf words before)) before after status
     → CameWhole words before after status
 came words before after status w =
     let due = w.2.0 in
@@ -219,7 +220,8 @@ pub run_ends : (words : List (List ℕ)) (source input : List ℕ) (steps : ℕ)
     → RunEnds words source input steps stats before after status
 run_ends words source input steps stats before after status a c u =
     let w = whole_run words source input steps stats before after status a c u in
-    ends_of words source input steps stats before after status w.due a w.shown (words_run words before source input steps stats w.due a w.outcome)
+    ends_of words source input steps stats before after status w.due a w.shown
+    (words_run words before source input steps stats w.due a w.outcome)
 
 -- ---- enough steps
 

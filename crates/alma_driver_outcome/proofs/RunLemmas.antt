@@ -1,5 +1,5 @@
 -- What a run of compiled code comes to, step by step and by the meaning.
-use Rattle.std.proofs.Common.{◌≡◌, ◌≤◌, ◌∙◌, ℕ, List, [], inr, ap, sym, subst, refl, arith}
+use Rattle.std.proofs.Common.{◌≡◌, ◌≤◌, ◌∙◌, ℕ, List, [], ap, sym, subst, refl, arith}
 use Rattle.std.specs.Prelude.{Bool, Option, None, true, false, length}
 use Rattle.alma_base.specs.Limits.{size_limit, input_limit}
 use Rattle.alma_ir.specs.Tree.{Program}
@@ -20,7 +20,8 @@ use Rattle.alma_io.specs.Outside.{Gains}
 use Rattle.alma_io.specs.Sides.{SinkSide}
 use Rattle.alma_driver_outcome.specs.declared.end.Counts.{Counts}
 use Rattle.alma_driver_outcome.specs.Ends.{mode_end, run_end, counts_in}
-use Rattle.alma_driver_outcome.specs.Outcome.{Due, code_end, code_due, reading_of, InputOutcome, unread, taken, past_input, AreCounts, told_end}
+use Rattle.alma_driver_outcome.specs.Outcome.{Due, code_end, code_due, reading_of, InputOutcome, unread, taken, past_input, AreCounts}
+use Rattle.alma_driver_outcome.specs.Outcome.{told_end}
 use Rattle.alma_driver_outcome.specs.Outcome.{MeansOn, ProgramOutcome, ran, too_much_code, IsTaken, Meant, meant_on, too_long, too_large}
 use Rattle.alma_driver_outcome.specs.Outcome.{TraceMeant, traced_on, trace_too_long, trace_too_large}
 use Rattle.alma_driver_outcome.specs.Showing.{Showing, Prints, Traces}
@@ -128,7 +129,8 @@ means_due : (left : Option (List ℕ)) (p : Program) (code : PlainCode) (input :
     → due ≡ code_due code input steps (Prints stats)
     → Meant left p steps stats due
 means_due left p code input steps stats due size implements reads short is e =
-    subst (Meant left p steps stats) (sym e) (meant_on input size (ap reading_of reads) is (code_means p code input steps stats implements short))
+    subst (Meant left p steps stats) (sym e)
+    (meant_on input size (ap reading_of reads) is (code_means p code input steps stats implements short))
 
 input_means : (left : Option (List ℕ)) (p : Program) (code : PlainCode) (steps : ℕ) (stats : Bool) (due : Due) → size_of p ≤ size_limit
     → Implements code p → code_reads code ≡ program_reads p

@@ -4,12 +4,10 @@ use Rattle.alma_io.specs.declared.files.Fetch.{Fetch}
 use Rattle.alma_io.specs.declared.files.Fetch.TheVariants as fetch
 use Rattle.alma_io.specs.declared.files.StoreFault.{StoreFault}
 use Rattle.alma_io.specs.declared.files.StoreFault.TheVariants as store
-use Rattle.alma_object_format.specs.declared.fault.ObjectFault.{ObjectFault}
 use Rattle.alma_lower.specs.declared.lowering.LowerError.{LowerError}
 use Rattle.alma_lower.specs.declared.lowering.LowerError.TheVariants as lower
 use Rattle.alma_code.specs.declared.step.End as code
 use Rattle.alma_code.specs.declared.step.End.TheVariants as ended
-use Rattle.alma_code.specs.declared.step.VerifyFault.{VerifyFault}
 use Rattle.alma_base.specs.declared.fault.RunFault.{RunFault}
 use Rattle.alma_code.specs.Machine.{Mode, Going, Failing, Ended, Stuck, State}
 use Rattle.alma_machine.specs.declared.machine.RunEnd.{RunEnd}

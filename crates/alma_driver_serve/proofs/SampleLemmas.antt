@@ -1,5 +1,5 @@
 -- What the run of a sample comes to.
-use Rattle.std.proofs.Common.{◌≡◌, ◌<◌, ◌∙◌, ◌++◌, ℕ, List, [], length, inl, inr, refl, ap, sym, subst, arith}
+use Rattle.std.proofs.Common.{◌≡◌, ◌∙◌, ◌++◌, ℕ, List, [], length, inl, inr, refl, ap, sym, subst, arith}
 use Rattle.std.specs.Prelude.{false, Option, Some, None, codes}
 use Rattle.alma_driver_words.specs.Sample.{sample_text}
 use Rattle.alma_driver_words.specs.Words.{default_steps}

@@ -1,5 +1,5 @@
 -- What a run that is traced comes to.
-use Rattle.std.proofs.Common.{◌≡◌, ◌≤◌, ◌+◌, ◌∙◌, ℕ, zero, suc, List, [], ◌++◌, map, flat_map, refl, inr, ap, sym, subst, arith}
+use Rattle.std.proofs.Common.{◌≡◌, ◌≤◌, ◌+◌, ◌∙◌, ℕ, zero, suc, List, [], ◌++◌, map, flat_map, refl, ap, sym, subst, arith}
 use Rattle.std.proofs.Common.{append_assoc, append-nil, nat_eq, All}
 use Rattle.std.specs.Prelude.{Bool, true, false, Option, None}
 use Rattle.std.proofs.lemmas.Bool.{eqb-true}

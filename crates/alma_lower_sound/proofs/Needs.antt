@@ -245,7 +245,8 @@ module _ (code : PlainCode) (r : ℕ) where
     clean at i h4 h5 h6 h7 h8 h9 h10 h11 h12 =
         unless_holds (breach 4 at) _ h4 ∙ (unless_holds (breach 5 at) _ h5 ∙ (unless_holds (breach 6 at) _ h6
         ∙ (unless_holds (breach 7 at) _ h7 ∙ (unless_holds (breach 8 at) _ h8
-        ∙ (unless_holds (breach 9 at) _ h9 ∙ (unless_holds (breach 10 at) _ h10 ∙ (unless_holds (breach 11 at) _ h11 ∙ unless_holds (breach 12 at) _ h12)))))))
+        ∙ (unless_holds (breach 9 at) _ h9 ∙ (unless_holds (breach 10 at) _ h10
+        ∙ (unless_holds (breach 11 at) _ h11 ∙ unless_holds (breach 12 at) _ h12)))))))
 
     not_last : (at : ℕ) (i : Instr) → suc at < end_at code r → rule_11 code r at i ≡ true
     unfolding rule_11

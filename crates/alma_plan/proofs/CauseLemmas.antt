@@ -256,7 +256,8 @@ module _ (program : List ℕ) (scope : Scope) (dues : HasOwnDues scope) (before 
   input_of end (unfetched name asks q risen files input out) = inl input
   input_of end (unread q fetches files reads lost risen out) = inr reads
   input_of end (unwritten r due may q fetches files takes out) = takes_read scope.may r due before.input after.input may takes
-  input_of end (unstored r due stored may is q fetches files risen takes out) = takes_read scope.may r due before.input after.input may takes
+  input_of end (unstored r due stored may is q fetches files risen takes out) =
+      takes_read scope.may r due before.input after.input may takes
   input_of end (starved q fetches files reads out faults) = starved_input reads
   input_of end (done r due may is fetches files takes out) = takes_read scope.may r due before.input after.input may takes
 
