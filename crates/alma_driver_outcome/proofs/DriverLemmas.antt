@@ -1,8 +1,8 @@
 -- From what the parts of a call ensure to how the call may go.
 use Rattle.std.proofs.Common.{◌+◌, ◌≡◌, ◌≤◌, ◌<◌, ◌^◌, ◌∙◌, ℕ, List, [], length, ap, sym, subst, refl, inl, inr, arith}
-use Rattle.std.specs.Prelude.{◌⊎◌, Bool, true, false, Option, Result, Err, None, Some}
+use Rattle.std.specs.Prelude.{◌⊎◌, Bool, true, false, Option, Result, Err, None, Some, ltb}
 use Rattle.std.specs.Global.{Vec}
-use Rattle.std.proofs.lemmas.Bool.{cases_lt}
+use Rattle.std.proofs.lemmas.Bool.{cases_lt, le-ltb, lt-ltb}
 use Rattle.alma_base.specs.Limits.{size_limit, input_limit}
 use Rattle.std.specs.Io.KnownBytes.{Consumes, IsAtEnd}
 use Rattle.alma_io.specs.Whole.{MayHaveMore, LosesAtMost, LosesBytes, HasReadCause}
@@ -20,6 +20,7 @@ use Rattle.alma_code.specs.Plain.{PlainCode}
 use Rattle.alma_code.specs.Reads.{code_reads}
 use Rattle.alma_code.specs.Records.{KeepsVersion, KeepsCounts, KeepsRecords}
 use Rattle.alma_code.specs.Rules.{code_fault}
+use Rattle.alma_code.specs.declared.step.End.TheVariants as code_end
 use Rattle.alma_code.specs.declared.step.VerifyFault.{VerifyFault}
 use Rattle.alma_object_format.specs.declared.fault.ObjectFault.{ObjectFault}
 use Rattle.alma_object.specs.Object.{IsObject, object_bytes}
@@ -32,7 +33,8 @@ use Rattle.alma_lower.specs.declared.lowering.LowerError.TheVariants as lower
 use Rattle.alma_run_laws.specs.Shown.{size_of}
 use Rattle.alma_run_laws.proofs.Sizes.{not_lowered, refused_large}
 use Rattle.alma_run_laws.proofs.Told.{told_stays}
-use Rattle.alma_driver_words.specs.Words.{Request, Check, Compile, Listing, Run, Exec, Trace, Sample, Asks, Reads}
+use Rattle.alma_driver_words.specs.Words.{Request, Check, Compile, Listing, Run, Exec, Trace, Sample, Reads}
+use Rattle.alma_driver_words.specs.Words as words_of
 use Rattle.alma_driver_outcome.specs.Words.{read_by, limit_of, IsReadBy}
 use Rattle.alma_driver_outcome.specs.Showing.{Showing, Prints}
 use Rattle.alma_io.specs.Sides.{SinkSide, SourceSide, FilesSide}
@@ -41,12 +43,18 @@ use Rattle.alma_base.specs.declared.place.Place.{Place}
 use Rattle.alma_scan.specs.Places.{line_at, column_at}
 use Rattle.alma_source.specs.Refusal.{IsRefused, IsProgramOf}
 use Rattle.alma_source.specs.declared.fault.SourceFault.{SourceFault}
-use Rattle.alma_driver_outcome.specs.Ends.{lower_end, words_end, fetch_end, store_end, input_end, program}
+use Rattle.alma_driver_outcome.specs.Ends.{lower_end, words_end, end_of_stop, end_of_program, ending_in, program}
 use Rattle.alma_plan.specs.Course as frame
-use Rattle.alma_plan.specs.Course.{MayRead, Takes}
-use Rattle.alma_plan.specs.Plan.{Reading, Kept, Finished, Passed}
-use Rattle.alma_plan.proofs.Courses.{course_starved, files_same, gains_none, was_left}
-use Rattle.alma_plan.proofs.Storing.{is_object, stored_as}
+use Rattle.alma_plan.specs.Course.{Course, MayRead, Takes}
+use Rattle.alma_plan.specs.Ends.{program_end}
+use Rattle.alma_plan.specs.Plan as plan
+use Rattle.alma_plan.specs.Plan.{Asks, Comes, Ending, Reading, Kept, Finished, Passed, ending_of}
+use Rattle.alma_plan.specs.Programs.{Stores, sense, store_plan, unless_large}
+use Rattle.alma_plan.specs.Refusals.{fetch_stop, read_stop}
+use Rattle.alma_plan.specs.declared.end.ProgramEnd.{ProgramEnd}
+use Rattle.alma_plan.specs.declared.end.ProgramEnd.TheVariants as ended
+use Rattle.alma_plan.specs.declared.stop.Stop.TheVariants as stop
+use Rattle.alma_plan.proofs.Courses.{course_map, course_starved, files_same, gains_none, was_left}
 use Rattle.alma_driver_outcome.specs.Outcome.{Due, due_of, silent, storing, code_due, long_input, reading_of, InputOutcome, unread}
 use Rattle.alma_driver_outcome.specs.Outcome.{taken, past_input, ProgramOutcome, ran, too_much_code, CompileOutcome, made}
 use Rattle.alma_driver_outcome.specs.Outcome.{past_size, refused, IsStop, SourceOutcome, stopped, compiled, CheckOutcome}
@@ -110,7 +118,7 @@ pub runs_lost : (code : PlainCode) (steps : ℕ) (showing : Showing) (i j : Sour
     → LosesAtMost i.left j.left (input_limit + 1) → HasReadCause i.faults j.faults (Err error)
     → (not_read error ≡ not_read reading.TooLong → MayHaveMore i.left input_limit)
     → (not_read error ≡ not_read reading.TooLong → LosesBytes i.left j.left (input_limit + 1))
-    → Runs (InputOutcome i.left code steps showing) i j a a (input_end error)
+    → Runs (InputOutcome i.left code steps showing) i j a a (end_of_stop (read_stop error))
 runs_lost code steps showing i j reading.Fault a q loses cause more past = λ f file.
     frame.unread refl refl (files_same f) (reading_due file i.left code steps showing q) loses (cause.0, cause.1) (gains_none a)
 runs_lost code steps showing i j reading.TooLong a q loses cause more past = λ f file.
@@ -287,47 +295,67 @@ one_execution input bytes steps stats first second (unopened fault c e) (unopene
 
 -- ---- the files
 
--- what is due from the store of these bytes
-abbrev pub IsStoring : (name bytes : List ℕ) → Due → Type 0
-IsStoring name bytes due = due ≡ storing name bytes
+-- so a program that fails ends
+abbrev pub failure : Ending
+failure = ending_of 1 []
 
--- it may come
-may_store : (file name bytes : List ℕ) → MayCome file (IsStoring name bytes) Kept (shown_in file (storing name bytes))
-may_store file name bytes = (storing name bytes, refl, refl, refl)
+-- the end of a program, as it is told
+program_told : (file : List ℕ) (end : ProgramEnd) → program_end program failure end ≡ ending_in file (end_of_program end)
+program_told file (ended.Ended code_end.Succeeded line) = refl
+program_told file (ended.Ended code_end.Failed line) = refl
+program_told file (ended.Ended (code_end.Fault fault) line) = refl
+program_told file ended.Stored = refl
+program_told file ended.StepsOut = refl
+program_told file (ended.TooMuchCode size) = refl
+program_told file (ended.Stopped stop.Read) = refl
+program_told file (ended.Stopped stop.Write) = refl
+program_told file (ended.Stopped stop.Memory) = refl
+program_told file (ended.Stopped stop.TooLong) = refl
 
--- bytes that were stored
-pub works_stored : (f g : FilesSide) (name bytes : List ℕ) → g.fetch_faults ≡ f.fetch_faults → OthersStay f g name
-    → NowHas (f.told name) (g.told name) bytes
-    → g.store_faults ≡ f.store_faults → Works (IsStoring name bytes) f g (Succeeded None)
-works_stored f g name bytes quiet others now same = λ input out file.
-    frame.done Kept (shown_in file (storing name bytes)) (may_store file name bytes) refl quiet (others, now, same) refl (gains_none out)
+module _ (p : Program) (object : List ℕ) where
+  -- what the plan of storing an object asks for, and what may come of it
+  stores_none : (told : List ℕ → Told) (name : List ℕ) → Asks (sense program failure) told (store_plan program p object) name → ⊥
+  stores_none told name = by (ltb size_limit (size_of p))
+    where
+      by : (is_large : Bool)
+          → Asks (sense program failure) told (unless_large is_large program p (plan.Ends (Stores p object))) name → ⊥
+      by true none = none
+      by false none = none
 
--- bytes that were not stored
-pub works_unstored : (f g : FilesSide) (name bytes : List ℕ) (fault : StoreFault) → g.fetch_faults ≡ f.fetch_faults → OthersStay f g name
-    → IsStored (f.told name) (g.told name) bytes f.store_faults g.store_faults (Err fault)
-    → Works (IsStoring name bytes) f g (store_end fault)
-works_unstored f g name bytes store.Failed quiet others h = λ input out file.
-    frame.unstored Kept (shown_in file (storing name bytes)) (stored_as name bytes) (may_store file name bytes) refl refl quiet others
-    (h.0, h.1) refl (gains_none out)
-works_unstored f g name bytes store.Memory quiet others h = λ input out file.
-    frame.starved refl quiet (told_stays f g name others h.0, h.1) (inl refl) (inl (appends_none out.written)) refl
+  may_store : (told : List ℕ → Told) (left : Option (List ℕ)) (file : List ℕ) (r : Reading) (shown : plan.Due)
+      → Comes (sense program failure) program told left (store_plan program p object) r shown
+      → MayCome file (CompileOutcome p object) r shown
+  may_store told left file r shown = by (cases_lt size_limit (size_of p))
+    where
+      large : (is_large : Bool) → is_large ≡ true → size_limit < size_of p
+          → Comes (sense program failure) program told left (unless_large is_large program p (plan.Ends (Stores p object))) r shown
+          → MayCome file (CompileOutcome p object) r shown
+      large true e past m = (silent (TooMuchCode (size_of p)), past_size past refl, m.0, m.1)
+      large false e past m = cc e
 
--- a program that was compiled and stored
-pub works_compiled : (p : Program) (code : PlainCode) (object : List ℕ) (f g : FilesSide) (end : End) → IsCodeFor p code
-    → KeepsVersion code → KeepsCounts code → KeepsRecords code → FitsFields code → size_of p ≤ size_limit
-    → Works (IsStoring object (object_bytes code)) f g end → Works (CompileOutcome p object) f g end
-works_compiled p code object f g end is version counts records fits within w =
-    works_map (IsStoring object (object_bytes code)) (CompileOutcome p object)
-    (λ due e. made code (object_bytes code) within is (is_object p code is version counts records) fits e) f g end w
+      within : (is_large : Bool) → is_large ≡ false → size_of p ≤ size_limit
+          → Comes (sense program failure) program told left (unless_large is_large program p (plan.Ends (Stores p object))) r shown
+          → MayCome file (CompileOutcome p object) r shown
+      within true e small m = cc e
+      within false e small m = (storing object m.1.1, made m.1.0 m.1.1 small m.1.2 m.1.3 m.1.4 refl, m.0, m.1.5)
 
--- a program that was not compiled is not stored
-pub works_refused : (p : Program) (object : List ℕ) (error : LowerError) (f : FilesSide) → IsUnlowered p error
-    → Works (CompileOutcome p object) f f (lower_end error)
-works_refused p object error f (large past e) =
-    subst (Works (CompileOutcome p object) f f) (sym e)
-    (works_silent (CompileOutcome p object) f (TooMuchCode (size_of p)) (past_size past refl))
-works_refused p object error f (starved e) =
-    subst (Works (CompileOutcome p object) f f) (sym e) (works_starved (CompileOutcome p object) f)
+      by : (size_limit < size_of p) ⊎ (size_of p ≤ size_limit)
+          → Comes (sense program failure) program told left (store_plan program p object) r shown
+          → MayCome file (CompileOutcome p object) r shown
+      by (inl past) m = large (ltb size_limit (size_of p)) (lt-ltb size_limit (size_of p) past) past m
+      by (inr small) m = within (ltb size_limit (size_of p)) (le-ltb size_limit (size_of p) small) small m
+
+  -- a program whose object was stored, or not
+  pub works_program : (f g : FilesSide) (end : ProgramEnd)
+      → ((input : SourceSide) (out : SinkSide) → frame.Follows (sense program failure) program (store_plan program p object) f g input input
+      out out (program_end program failure end))
+      → Works (CompileOutcome p object) f g (end_of_program end)
+  works_program f g end follows = λ input out file.
+      subst (Course program NoFile (MayCome file (CompileOutcome p object)) f g input input out out) (program_told file end)
+      (course_map program (Asks (sense program failure) f.told (store_plan program p object)) NoFile
+      (Comes (sense program failure) program f.told input.left (store_plan program p object)) (MayCome file (CompileOutcome p object))
+      (stores_none f.told) (may_store f.told input.left file) f f g input input out out (program_end program failure end)
+      (files_same f) refl (follows input out))
 
 -- a source whose program was compiled
 pub works_read : (source : List ℕ) (P : Program → Due → Type 0) (p : Program) (f g : FilesSide) (end : End) → IsProgramOf source p
@@ -386,7 +414,7 @@ fetch_of told name limit r before now fault l h = subst (λ (k : ℕ). IsFetched
 pub serves_unfetched : (f g : FilesSide) (r : Request) (name : List ℕ) (fault : Fetch) (i : SourceSide) (a : SinkSide)
     → read_by r ≡ Some name → FilesStay f g
     → IsFetched (f.told name) name (limit_of r) f.fetch_faults g.fetch_faults (Err fault)
-    → Serves (IsReadBy r) (RequestOutcome f.told i.left r) f g i i a a (fetch_end fault)
+    → Serves (IsReadBy r) (RequestOutcome f.told i.left r) f g i i a a (end_of_stop (fetch_stop fault))
 serves_unfetched f g r name fetch.Absent i a is s h = λ file.
     frame.done Kept (shown_in file (silent ReadFault)) (silent ReadFault, absent name is h.0 refl, refl, refl) refl h.1 s refl
     (gains_none a)
@@ -423,7 +451,7 @@ serves_bad ws f words.Memory i a h = λ file. course_starved program (AskToRead 
 
 -- words that are a request
 pub serves_asked : (words : List (List ℕ)) (request : Request) (f g : FilesSide) (i j : SourceSide) (a b : SinkSide) (end : End)
-    → Asks words request → Serves (IsReadBy request) (RequestOutcome f.told i.left request) f g i j a b end
+    → words_of.Asks words request → Serves (IsReadBy request) (RequestOutcome f.told i.left request) f g i j a b end
     → Serves (AskToRead words) (Outcome words f.told i.left) f g i j a b end
 serves_asked words request f g i j a b end h s =
     serves_behind (IsReadBy request) (AskToRead words) (RequestOutcome f.told i.left request) (Outcome words f.told i.left)

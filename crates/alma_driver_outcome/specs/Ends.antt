@@ -1,9 +1,5 @@
 -- The ends of a call: their statuses and their texts.
 use Rattle.std.specs.Prelude.{Bool, true, false, List, ℕ, [], ◌++◌, codes, decimal, Option, Some, None}
-use Rattle.alma_io.specs.declared.files.Fetch.{Fetch}
-use Rattle.alma_io.specs.declared.files.Fetch.TheVariants as fetch
-use Rattle.alma_io.specs.declared.files.StoreFault.{StoreFault}
-use Rattle.alma_io.specs.declared.files.StoreFault.TheVariants as store
 use Rattle.alma_lower.specs.declared.lowering.LowerError.{LowerError}
 use Rattle.alma_lower.specs.declared.lowering.LowerError.TheVariants as lower
 use Rattle.alma_code.specs.declared.step.End as code
@@ -12,14 +8,16 @@ use Rattle.alma_base.specs.declared.fault.RunFault.{RunFault}
 use Rattle.alma_code.specs.Machine.{Mode, Going, Failing, Ended, Stuck, State}
 use Rattle.alma_machine.specs.declared.machine.RunEnd.{RunEnd}
 use Rattle.alma_machine.specs.declared.machine.RunEnd.TheVariants as run
-use Rattle.alma_io.specs.declared.whole.ReadAll.{ReadAll}
-use Rattle.alma_io.specs.declared.whole.ReadAll.TheVariants as whole
 use Rattle.alma_driver_words.specs.Exit as exit
 use Rattle.alma_driver_words.specs.declared.words.WordsError.{WordsError}
 use Rattle.alma_driver_words.specs.declared.words.WordsError.TheVariants as words
 use Rattle.alma_plan.specs.Plan.{Ending, ending_of, line_of}
 use Rattle.alma_plan.specs.Programs.{fault_words}
 use Rattle.alma_plan.specs.Refusals.{object_fault_text, rule_fault_text}
+use Rattle.alma_plan.specs.declared.end.ProgramEnd.{ProgramEnd}
+use Rattle.alma_plan.specs.declared.end.ProgramEnd.TheVariants as program_end
+use Rattle.alma_plan.specs.declared.stop.Stop.{Stop}
+use Rattle.alma_plan.specs.declared.stop.Stop.TheVariants as stop
 use Rattle.alma_source.specs.Texts.{refusal_text}
 use Rattle.alma_driver_outcome.specs.declared.end.Counts.{Counts}
 use Rattle.alma_driver_outcome.specs.declared.end.End.{End}
@@ -123,12 +121,6 @@ run_end run.StepsOut line counts = StepsOut counts
 run_end run.WriteFault line counts = WriteFault
 run_end run.Memory line counts = Memory
 
--- the end of a call whose input was not read
-abbrev pub input_end : ReadAll → End
-input_end whole.Fault = ReadFault
-input_end whole.TooLong = TooLong
-input_end whole.Memory = Memory
-
 -- the end of a program that was not compiled
 abbrev pub lower_end : LowerError → End
 lower_end (lower.TooMuchCode size) = TooMuchCode size
@@ -139,17 +131,20 @@ abbrev pub words_end : WordsError → End
 words_end (words.Bad k) = BadWord k
 words_end words.Memory = Memory
 
--- the end of a fetch that gave no file
-abbrev pub fetch_end : Fetch → End
-fetch_end fetch.Absent = ReadFault
-fetch_end fetch.Failed = ReadFault
-fetch_end fetch.TooLong = TooLong
-fetch_end fetch.Memory = Memory
+-- the end of a call that was stopped
+abbrev pub end_of_stop : Stop → End
+end_of_stop stop.Read = ReadFault
+end_of_stop stop.Write = WriteFault
+end_of_stop stop.Memory = Memory
+end_of_stop stop.TooLong = TooLong
 
--- the end of a store that stored nothing
-abbrev pub store_end : StoreFault → End
-store_end store.Failed = WriteFault
-store_end store.Memory = Memory
+-- the end of a program that is compiled and stored, or run without counts
+abbrev pub end_of_program : ProgramEnd → End
+end_of_program (program_end.Ended end line) = ended_end end line None
+end_of_program program_end.Stored = Succeeded None
+end_of_program program_end.StepsOut = StepsOut None
+end_of_program (program_end.TooMuchCode size) = TooMuchCode size
+end_of_program (program_end.Stopped cause) = end_of_stop cause
 
 -- the line that sums up the run of a sample: its lines, the bytes of its source and of its output, and the status of its end
 abbrev pub summary_line : (lines bytes printed status : List ℕ) → List ℕ

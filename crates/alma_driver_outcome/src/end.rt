@@ -1,14 +1,14 @@
 // The ends of a call: how they come from the answers of its parts, and their statuses.
 ghost use Rattle.std.specs.Prelude.{◌≡◌};
-ghost use Rattle.alma_driver_outcome.specs.Ends.{status_of, counts_with, run_end, input_end, lower_end, words_end, fetch_end, store_end};
+ghost use Rattle.alma_driver_outcome.specs.Ends.{status_of, counts_with, run_end, lower_end, words_end, end_of_stop, end_of_program};
 
 use alma_base::{Place, RunFault};
 use alma_code::VerifyFault;
 use alma_driver_words::{WordsError, exit};
-use alma_io::{Fetch, ReadAll, StoreFault};
 use alma_lower::LowerError;
 use alma_machine::RunEnd;
 use alma_object::ObjectFault;
+use alma_plan::{ProgramEnd, Stop};
 use alma_source::SourceFault;
 
 /// What a run counted: the steps that it made, the choice entries that it pushed, and those that it
@@ -100,18 +100,6 @@ pub fn end_of(run: RunEnd, line: u32, counts: Option<Counts>) -> End
     }
 }
 
-impl From<ReadAll> for End {
-    ghost from_gives = { λ error end. end ≡ input_end error };
-
-    fn from(error: ReadAll) -> Self {
-        match error {
-            ReadAll::Fault => End::ReadFault,
-            ReadAll::TooLong => End::TooLong,
-            ReadAll::Memory => End::Memory,
-        }
-    }
-}
-
 impl From<LowerError> for End {
     ghost from_gives = { λ error end. end ≡ lower_end error };
 
@@ -134,26 +122,33 @@ impl From<WordsError> for End {
     }
 }
 
-impl From<Fetch> for End {
-    ghost from_gives = { λ fault end. end ≡ fetch_end fault };
+impl From<Stop> for End {
+    ghost from_gives = { λ stop end. end ≡ end_of_stop stop };
 
-    fn from(fault: Fetch) -> Self {
-        match fault {
-            Fetch::Absent => End::ReadFault,
-            Fetch::Failed => End::ReadFault,
-            Fetch::TooLong => End::TooLong,
-            Fetch::Memory => End::Memory,
+    fn from(stop: Stop) -> Self {
+        match stop {
+            Stop::Read => End::ReadFault,
+            Stop::Write => End::WriteFault,
+            Stop::Memory => End::Memory,
+            Stop::TooLong => End::TooLong,
         }
     }
 }
 
-impl From<StoreFault> for End {
-    ghost from_gives = { λ fault end. end ≡ store_end fault };
+impl From<ProgramEnd> for End {
+    ghost from_gives = { λ ended end. end ≡ end_of_program ended };
 
-    fn from(fault: StoreFault) -> Self {
-        match fault {
-            StoreFault::Failed => End::WriteFault,
-            StoreFault::Memory => End::Memory,
+    fn from(ended: ProgramEnd) -> Self {
+        match ended {
+            ProgramEnd::Ended(alma_code::End::Succeeded, _) => End::Succeeded(None),
+            ProgramEnd::Ended(alma_code::End::Failed, _) => End::Failed(None),
+            ProgramEnd::Ended(alma_code::End::Fault(fault), line) => {
+                End::Faulted(fault, line, None)
+            }
+            ProgramEnd::Stored => End::Succeeded(None),
+            ProgramEnd::StepsOut => End::StepsOut(None),
+            ProgramEnd::TooMuchCode(size) => End::TooMuchCode(size),
+            ProgramEnd::Stopped(stop) => End::from(stop),
         }
     }
 }

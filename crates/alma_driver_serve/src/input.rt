@@ -14,6 +14,7 @@ use alma_base::{INPUT_LIMIT, NoMemory};
 use alma_driver_outcome::{Counts, End, Showing, end_of};
 use alma_io::{Sink, Source, read_all};
 use alma_machine::Machine;
+use alma_plan::Stop;
 use alma_verify::Verified;
 use std::alloc::Global;
 
@@ -95,7 +96,7 @@ fn run_reading<I: Source, O: Sink>(
 {
     match read_all(alloc, input, INPUT_LIMIT) {
         Ok(bytes) => run_on(alloc, code, &bytes, steps, showing, out),
-        Err(error) => End::from(error),
+        Err(error) => End::from(Stop::from(error)),
     }
 }
 

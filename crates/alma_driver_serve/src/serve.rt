@@ -16,6 +16,7 @@ use crate::source::{run_source, trace_source};
 use alma_driver_outcome::{End, Showing};
 use alma_driver_words::{Request, read_words};
 use alma_io::{Files, Sink, Source};
+use alma_plan::Stop;
 use std::alloc::Global;
 
 // Does what a request asks, with the bytes of the file that it reads.
@@ -65,7 +66,7 @@ fn serve_named<F: Files, I: Source, O: Sink>(
 {
     match files.fetch(alloc, file, read_limit(request)) {
         Ok(bytes) => serve_file(alloc, request, &bytes, files, input, out),
-        Err(fault) => End::from(fault),
+        Err(fault) => End::from(Stop::from(fault)),
     }
 }
 
