@@ -24,7 +24,7 @@ returns-in-Ok g c =
 
 pub returns-in-Err : goal.returns-in-Err
 returns-in-Err g c =
-    rw (c.from-2.ensures ∙ ap end_of_stop c.from.ensures) (serves_unfetched (g.F.Files.side c.args.files.now)
+    rw (c.from-in-Err.ensures ∙ ap end_of_stop c.from.ensures) (serves_unfetched (g.F.Files.side c.args.files.now)
     (g.F.Files.side c.fetch.new.self)
     (request_of c.args.request.now) c.args.file.now c.in-Err.fault (g.I.Source.side c.args.input.now) (g.O.Sink.side c.args.out.now)
     c.requires.read
