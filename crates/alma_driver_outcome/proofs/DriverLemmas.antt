@@ -8,23 +8,19 @@ use Rattle.std.specs.Io.KnownBytes.{Consumes, IsAtEnd}
 use Rattle.alma_io.specs.Whole.{MayHaveMore, LosesAtMost, LosesBytes, HasReadCause}
 use Rattle.alma_io.specs.declared.whole.ReadAll.{ReadAll}
 use Rattle.alma_io.specs.declared.whole.ReadAll.TheVariants as reading
-use Rattle.alma_io.specs.Files.{Told, MayHave, NowHas, IsFetched, IsStored}
+use Rattle.alma_io.specs.Files.{Told, MayHave, IsFetched}
 use Rattle.alma_io.specs.declared.files.Fetch.{Fetch}
 use Rattle.alma_io.specs.declared.files.Fetch.TheVariants as fetch
-use Rattle.alma_io.specs.declared.files.StoreFault.{StoreFault}
-use Rattle.alma_io.specs.declared.files.StoreFault.TheVariants as store
 use Rattle.alma_io.proofs.Known.{appends_none}
 use Rattle.alma_ir.specs.Tree.{Program}
 use Rattle.alma_code.specs.ListText.{list_text}
 use Rattle.alma_code.specs.Plain.{PlainCode}
 use Rattle.alma_code.specs.Reads.{code_reads}
-use Rattle.alma_code.specs.Records.{KeepsVersion, KeepsCounts, KeepsRecords}
 use Rattle.alma_code.specs.Rules.{code_fault}
 use Rattle.alma_code.specs.declared.step.End.TheVariants as code_end
 use Rattle.alma_code.specs.declared.step.VerifyFault.{VerifyFault}
 use Rattle.alma_object_format.specs.declared.fault.ObjectFault.{ObjectFault}
-use Rattle.alma_object.specs.Object.{IsObject, object_bytes}
-use Rattle.alma_object.specs.Fields.{FitsFields}
+use Rattle.alma_object.specs.Object.{IsObject}
 use Rattle.alma_object.specs.Walk.{object_fault}
 use Rattle.alma_verify.specs.Bytes.{object_code}
 use Rattle.alma_lower.specs.declared.lowering.LowerError.{LowerError}
@@ -32,13 +28,12 @@ use Rattle.alma_lower.specs.CodeFor.{IsCodeFor}
 use Rattle.alma_lower.specs.declared.lowering.LowerError.TheVariants as lower
 use Rattle.alma_run_laws.specs.Shown.{size_of}
 use Rattle.alma_run_laws.proofs.Sizes.{not_lowered, refused_large}
-use Rattle.alma_run_laws.proofs.Told.{told_stays}
 use Rattle.alma_driver_words.specs.Words.{Request, Check, Compile, Listing, Run, Exec, Trace, Sample, Reads}
 use Rattle.alma_driver_words.specs.Words as words_of
 use Rattle.alma_driver_outcome.specs.Words.{read_by, limit_of, IsReadBy}
 use Rattle.alma_driver_outcome.specs.Showing.{Showing, Prints}
 use Rattle.alma_io.specs.Sides.{SinkSide, SourceSide, FilesSide}
-use Rattle.alma_io.specs.Outside.{FilesStay, OthersStay}
+use Rattle.alma_io.specs.Outside.{FilesStay}
 use Rattle.alma_base.specs.declared.place.Place.{Place}
 use Rattle.alma_scan.specs.Places.{line_at, column_at}
 use Rattle.alma_source.specs.Refusal.{IsRefused, IsProgramOf}
