@@ -8,8 +8,10 @@ ghost use Rattle.alma_driver_outcome.specs.Ends.{counts_line, counts_text, end_t
 use crate::end::{Counts, End};
 use alma_base::Status;
 use alma_driver_words::exit;
-use alma_io::{Failed, Sink, write_parts};
-use alma_plan::{Refusal, Stop, refuse, refuse_number, tell_fault, tell_refusal, tell_steps_out};
+use alma_io::{Failed, Sink};
+use alma_plan::{
+    Refusal, Stop, refuse, refuse_number, tell_fault, tell_refusal, tell_steps_out, write_text,
+};
 use itoa::Buffer;
 
 /// The name of the program.
@@ -29,7 +31,7 @@ fn write_counts_line<E: Sink>(
     let second = b" choices ".as_slice();
     let third = b" fails ".as_slice();
     let end = b"\n".as_slice();
-    write_parts(err, &[first, steps, second, choices, third, fails, end])
+    write_text(err, &[first, steps, second, choices, third, fails, end])
 }
 
 // Writes counts.

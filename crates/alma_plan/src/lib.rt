@@ -24,4 +24,4 @@ pub use stop::Stop;
 pub use store::store_program;
 pub use telling::{tell_fault, tell_program, tell_refusal, tell_steps_out};
 pub use words::bad_file;
-pub use writing::report;
+pub use writing::{report, write_text};
