@@ -36,7 +36,7 @@ walk_end (Err stop) = Refused (Stopped stop)
 pub goes_walk : (bytes : List ℕ) (out out' : SinkSide) (r : Result (Unit {0}) Stop) → Shows out out' bytes r
     → Goes program (IsDue (prints bytes)) out out' (back_end (walk_end r))
 goes_walk bytes out out' (Ok done) h = whole (prints bytes) refl refl refl h
-goes_walk bytes out out' (Err Write) h = cut_short (prints bytes) refl refl h
+goes_walk bytes out out' (Err Write) h = cut_short (prints bytes) refl refl refl h
 goes_walk bytes out out' (Err Memory) h = hungry_within (prints bytes) refl refl h.0 h.1
 goes_walk bytes out out' (Err Read) h = absurd h
 goes_walk bytes out out' (Err TooLong) h = absurd h

@@ -27,8 +27,8 @@ use Rattle.alma_driver_outcome.specs.Outcome.{CompileOutcome, made, past_size, I
 use Rattle.alma_driver_outcome.specs.Outcome.{CheckOutcome, ListOutcome, listed, no_object, CodeOutcome, executed, unsound, ExecOutcome}
 use Rattle.alma_driver_outcome.specs.Outcome.{opened, unopened, SampleOutcome, summed, FileOutcome, RequestOutcome, absent, past_limit}
 use Rattle.alma_driver_outcome.specs.Outcome.{fetched, Outcome, bad_word, asks, Lacks}
-use Rattle.alma_driver_outcome.specs.Course.{MayCome}
-use Rattle.alma_driver_outcome.specs.Scope.{Answers, Causes, DueOf, scope_of}
+use Rattle.alma_driver_outcome.specs.Parts.{MayCome}
+use Rattle.alma_driver_outcome.specs.Scope.{Answers, Causes, IsOutcome, scope_of}
 
 -- ---- what is due
 
@@ -147,11 +147,11 @@ outcome_absent told left words due l (asks r k o) =
 
 module _ (words : List (List ℕ)) (before : Outside) where
   -- the status of what may come
-  status_is : (r : Reading) (shown : plan.Due) (m : MayCome (file_of words) (DueOf words before) r shown)
+  status_is : (r : Reading) (shown : plan.Due) (m : MayCome (file_of words) (IsOutcome words before) r shown)
       → shown.end.status ≡ status_of m.0.end
   status_is r shown m = ap (λ (d : plan.Due). d.end.status) m.3
 
-  by_reads : (r : Reading) (shown : plan.Due) (m : MayCome (file_of words) (DueOf words before) r shown) → shown.end.status ≡ 6
+  by_reads : (r : Reading) (shown : plan.Due) (m : MayCome (file_of words) (IsOutcome words before) r shown) → shown.end.status ≡ 6
       → IsAbsence words before.files.told m.0 ⊎ IsOwn m.0
       → Lacks words before.files.told × (shown.out ≡ []) × (shown.stored ≡ None)
   by_reads r shown m e (inl none) = (
@@ -161,7 +161,7 @@ module _ (words : List (List ℕ)) (before : Outside) where
   )
   by_reads r shown m e (inr own) = absurd (own.0 (sym (status_is r shown m) ∙ e))
 
-  by_own : (r : Reading) (shown : plan.Due) (m : MayCome (file_of words) (DueOf words before) r shown)
+  by_own : (r : Reading) (shown : plan.Due) (m : MayCome (file_of words) (IsOutcome words before) r shown)
       → IsAbsence words before.files.told m.0 ⊎ IsOwn m.0
       → (shown.end.status ≢ 7) × (shown.end.status ≢ 8)
   by_own r shown m (inl none) =
@@ -174,7 +174,7 @@ module _ (words : List (List ℕ)) (before : Outside) where
   dues_own = record {
     reads = λ r shown m e. by_reads r shown m e (outcome_dues before.files.told before.input.left words m.0 m.1);
     own = λ r shown m. by_own r shown m (outcome_dues before.files.told before.input.left words m.0 m.1);
-    lacking = λ l r shown m. status_is r shown m ∙ ap status_of (outcome_absent before.files.told before.input.left words m.0 l m.1);
+    absence = λ l r shown m. status_is r shown m ∙ ap status_of (outcome_absent before.files.told before.input.left words m.0 l m.1);
   }
 
   -- what a call's status says of it

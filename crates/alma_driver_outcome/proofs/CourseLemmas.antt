@@ -5,13 +5,14 @@ use Rattle.alma_io.specs.Fronts.{AppendsFront}
 use Rattle.alma_io.specs.Sides.{SinkSide, SourceSide, FilesSide}
 use Rattle.alma_io.specs.Outside.{FilesStay, Become, Gains, FailsWithin}
 use Rattle.alma_plan.specs.Course as plan_course
-use Rattle.alma_plan.specs.Course.{Course, Takes, ReadsOnly, cut_short, hungry, hungry_within, whole, unwritten, starved, done}
+use Rattle.alma_plan.specs.Course.{Course, Takes, ReadsOnly, cut_short, hungry, hungry_within, whole, unwritten, starved}
+use Rattle.alma_plan.specs.Course.{starved_within, done}
 use Rattle.alma_plan.specs.Plan as plan
 use Rattle.alma_plan.specs.Plan.{Reading, Kept}
 use Rattle.alma_plan.proofs.Courses.{course_map, course_starved, files_same, gains_none}
 use Rattle.alma_driver_outcome.specs.Ends.{ending_in, program}
 use Rattle.alma_driver_outcome.specs.Outcome.{Due, silent}
-use Rattle.alma_driver_outcome.specs.Course.{Goes, MayCome, MayShow, NoFile, Runs, Serves, Works, shown_in}
+use Rattle.alma_driver_outcome.specs.Parts.{Goes, MayCome, MayShow, NoFile, Runs, Serves, Works, shown_in}
 use Rattle.alma_driver_outcome.specs.declared.end.End.{End}
 use Rattle.alma_driver_outcome.specs.declared.end.End.TheVariants.{WriteFault, Memory}
 
@@ -23,7 +24,7 @@ goes_map P Q map a b end g = λ file. by file (g file)
   where
     by : (file : List ℕ) → plan_course.Goes program (MayShow file P) a b (ending_in file end)
         → plan_course.Goes program (MayShow file Q) a b (ending_in file end)
-    by file (cut_short shown m e out) = cut_short shown (m.0, map m.0 m.1, m.2) e out
+    by file (cut_short shown m none e out) = cut_short shown (m.0, map m.0 m.1, m.2) none e out
     by file (hungry e out) = hungry e out
     by file (hungry_within shown m e out quiet) = hungry_within shown (m.0, map m.0 m.1, m.2) e out quiet
     by file (whole shown m is none out) = whole shown (m.0, map m.0 m.1, m.2) is none out
@@ -35,8 +36,8 @@ pub goes_whole : (P : Due → Type 0) (due : Due) (a b : SinkSide) (end : End) �
 goes_whole P due a b end o e none out = λ file. whole (shown_in file due) (due, o, refl) (ap (ending_in file) e) none out
 
 -- a write failed within it
-pub goes_cut : (P : Due → Type 0) (due : Due) (a b : SinkSide) → P due → FailsWithin a b due.out → Goes P a b WriteFault
-goes_cut P due a b o out = λ file. cut_short (shown_in file due) (due, o, refl) refl out
+pub goes_cut : (P : Due → Type 0) (due : Due) (a b : SinkSide) → P due → due.stored ≡ None → FailsWithin a b due.out → Goes P a b WriteFault
+goes_cut P due a b o none out = λ file. cut_short (shown_in file due) (due, o, refl) none refl out
 
 -- memory ran out within it
 pub goes_within : (P : Due → Type 0) (due : Due) (a b : SinkSide) → P due → AppendsFront a.written b.written due.out → b.faults ≡ a.faults
@@ -82,11 +83,11 @@ runs_by P i j takes reads a b end g = λ f file. by f file (g file)
 
     by : (f : FilesSide) (file : List ℕ) → plan_course.Goes program (MayShow file P) a b (ending_in file end)
         → Course program NoFile (MayCome file P) f f i j a b (ending_in file end)
-    by f file (cut_short shown m e out) =
-        unwritten m.0.reading shown (may file shown m) e refl (files_same f) (takes m.0 m.1) out
-    by f file (hungry e out) = starved e refl (files_same f) (reads file) (inl out.bytes_are) out.quiet
+    by f file (cut_short shown m none e out) =
+        unwritten m.0.reading shown (may file shown m) none e refl (files_same f) (takes m.0 m.1) out
+    by f file (hungry e out) = starved e refl (files_same f) (reads file) out
     by f file (hungry_within shown m e out quiet) =
-        starved e refl (files_same f) (reads file) (inr (m.0.reading, shown, may file shown m, out)) quiet
+        starved_within m.0.reading shown (may file shown m) e refl (files_same f) (takes m.0 m.1) out quiet
     by f file (whole shown m is none out) =
         done m.0.reading shown (may file shown m) is refl (subst (Become f f) (sym none) (files_same f)) (takes m.0 m.1) out
 

@@ -11,7 +11,6 @@ use Rattle.alma_io.specs.declared.whole.ReadAll.TheVariants as reading
 use Rattle.alma_io.specs.Files.{Told, MayHave, IsFetched}
 use Rattle.alma_io.specs.declared.files.Fetch.{Fetch}
 use Rattle.alma_io.specs.declared.files.Fetch.TheVariants as fetch
-use Rattle.alma_io.proofs.Known.{appends_none}
 use Rattle.alma_ir.specs.Tree.{Program}
 use Rattle.alma_code.specs.ListText.{list_text}
 use Rattle.alma_code.specs.Plain.{PlainCode}
@@ -61,7 +60,7 @@ use Rattle.alma_driver_words.specs.declared.words.WordsError.TheVariants as word
 use Rattle.alma_driver_outcome.specs.declared.end.End.{End}
 use Rattle.alma_driver_outcome.specs.declared.end.End.TheVariants.{Succeeded, BadWord, Refused, ReadFault}
 use Rattle.alma_driver_outcome.specs.declared.end.End.TheVariants.{Memory, BadObject, BadCode, TooLong, TooMuchCode}
-use Rattle.alma_driver_outcome.specs.Course.{Goes, MayCome, NoFile, Runs, Serves, Works, shown_in}
+use Rattle.alma_driver_outcome.specs.Parts.{Goes, MayCome, NoFile, Runs, Serves, Works, shown_in}
 use Rattle.alma_driver_outcome.proofs.CourseLemmas.{goes_map, goes_silent, goes_starved, serves_behind, runs_map, runs_by, runs_still}
 use Rattle.alma_driver_outcome.proofs.CourseLemmas.{runs_starved, runs_silent, works_map, works_starved, works_silent}
 use Rattle.alma_driver_outcome.proofs.RunLemmas.{IsDue}
@@ -120,8 +119,7 @@ runs_lost code steps showing i j reading.TooLong a q loses cause more past = λ 
     frame.done Passed (shown_in file long_input) (long_input, past_input q (more refl) refl, refl, refl) refl refl (files_same f)
     (past refl, cause) (gains_none a)
 runs_lost code steps showing i j reading.Memory a q loses cause more past = λ f file.
-    frame.starved refl refl (files_same f) (inr (reading_due file i.left code steps showing q, (loses, cause)))
-    (inl (appends_none a.written)) refl
+    frame.starved refl refl (files_same f) (inr (reading_due file i.left code steps showing q, (loses, cause))) (gains_none a)
 
 -- ---- sources
 
@@ -418,7 +416,7 @@ serves_unfetched f g r name fetch.TooLong i a is s h = λ file.
     frame.done Kept (shown_in file (silent TooLong)) (silent TooLong, past_limit name is h.0 refl, refl, refl) refl h.1 s refl
     (gains_none a)
 serves_unfetched f g r name fetch.Memory i a is s h = λ file.
-    frame.starved refl h s (inl refl) (inl (appends_none a.written)) refl
+    frame.starved refl h s (inl refl) (gains_none a)
 
 -- a file that was fetched
 pub serves_fetched : (f g h : FilesSide) (r : Request) (name bytes : List ℕ) (i j : SourceSide) (a b : SinkSide) (end : End)

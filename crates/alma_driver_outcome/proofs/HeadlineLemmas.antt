@@ -31,8 +31,8 @@ use Rattle.alma_driver_outcome.specs.Outcome.{Due, silent, code_due, InputOutcom
 use Rattle.alma_driver_outcome.specs.Outcome.{ran, too_much_code, told_end, MeansOn, IsSourceEnd, refused, SourceOutcome, stopped}
 use Rattle.alma_driver_outcome.specs.Outcome.{compiled, RequestOutcome, absent, past_limit, fetched, unfetched, Outcome, bad_word, asks}
 use Rattle.alma_driver_outcome.specs.Outcome.{Lacks}
-use Rattle.alma_driver_outcome.specs.Course.{MayCome}
-use Rattle.alma_driver_outcome.specs.Scope.{Causes, DueOf, scope_of}
+use Rattle.alma_driver_outcome.specs.Parts.{MayCome}
+use Rattle.alma_driver_outcome.specs.Scope.{Causes, IsOutcome, scope_of}
 use Rattle.alma_driver_outcome.specs.Headline.{AsksToRun, ShowsResult, RunEnds, refuses, too_large, ended, ran_out}
 use Rattle.alma_driver_outcome.specs.Headline.{meant_status, meant_text}
 use Rattle.alma_driver_outcome.specs.declared.end.Counts.{Counts}
@@ -190,7 +190,7 @@ not_lacking words before source input steps stats a l =
 
 -- what is due by what may come
 came : (words : List (List ℕ)) (before after : Outside) (status : ℕ)
-    → IsWhole (MayCome (file_of words) (DueOf words before)) before after status
+    → IsWhole (MayCome (file_of words) (IsOutcome words before)) before after status
     → CameWhole words before after status
 came words before after status w =
     let due = w.2.0 in

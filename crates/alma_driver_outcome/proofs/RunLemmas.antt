@@ -25,7 +25,7 @@ use Rattle.alma_driver_outcome.specs.Outcome.{told_end}
 use Rattle.alma_driver_outcome.specs.Outcome.{MeansOn, ProgramOutcome, ran, too_much_code, IsTaken, Meant, meant_on, too_long, too_large}
 use Rattle.alma_driver_outcome.specs.Outcome.{TraceMeant, traced_on, trace_too_long, trace_too_large}
 use Rattle.alma_driver_outcome.specs.Showing.{Showing, Prints, Traces}
-use Rattle.alma_driver_outcome.specs.Course.{Goes}
+use Rattle.alma_driver_outcome.specs.Parts.{Goes}
 use Rattle.alma_driver_outcome.proofs.CourseLemmas.{goes_cut, goes_whole, goes_within}
 
 -- ---- a run of the machine
@@ -76,7 +76,7 @@ goes_fresh code input new steps stats run.StepsOut a b h =
     goes_over code input new.state steps stats run.StepsOut a b h.answered h.state (record { bytes_are = h.out; quiet = h.cause.ok })
 goes_fresh code input new steps stats run.WriteFault a b h =
     let le : made (fresh code input) new ≤ steps = omega (arith, h.few) in
-    goes_cut (IsDue code input steps (Prints stats)) (code_due code input steps (Prints stats)) a b refl (record {
+    goes_cut (IsDue code input steps (Prints stats)) (code_due code input steps (Prints stats)) a b refl refl (record {
       front = front_of_more a.written b.written code input (made (fresh code input) new) steps (start code) le h.write_fault;
       risen = (h.cause.later, h.cause.err);
     })

@@ -2,6 +2,6 @@ pub mod Words
 pub mod Showing
 pub mod Ends
 pub mod Outcome
-pub mod Course
+pub mod Parts
 pub mod Scope
 pub mod Headline

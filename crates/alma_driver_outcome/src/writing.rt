@@ -1,5 +1,5 @@
 // What a call says on err at its end.
-ghost use Rattle.std.specs.Prelude.{◌≡◌, Some};
+ghost use Rattle.std.specs.Prelude.{Some};
 ghost use Rattle.alma_io.specs.Outside.{Writes};
 ghost use Rattle.alma_plan.specs.Course.{Reports};
 ghost use Rattle.alma_plan.specs.Plan.{ending_of};
@@ -34,7 +34,7 @@ fn write_counts_line<E: Sink>(
     write_text(err, &[first, steps, second, choices, third, fails, end])
 }
 
-// Writes counts.
+// Writes the line of these counts.
 fn write_known_counts<E: Sink>(err: &mut E, counts: Counts) -> Result<(), Failed>
     ensures { Writes (E.side err.old) (E.side err.new) (counts_text (Some counts)) result }
 {
@@ -58,7 +58,8 @@ fn write_counts<E: Sink>(err: &mut E, counts: Option<Counts>) -> Result<(), Fail
     }
 }
 
-// Says how a call ends, behind its counts, where the words name this file.
+// Says on err how a call ends, but for its counts, where the words name this file: the status of
+// the end, or that of a write fault where err fails.
 fn tell<E: Sink>(err: &mut E, file: &str, end: End) -> Status
     ensures { Reports (ending_of (status_of end) (end_text file.now end))
         (E.side err.old) (E.side err.new) result.0 }

@@ -5,14 +5,14 @@ use Rattle.alma_driver_words.specs.Sample.{sample_text}
 use Rattle.alma_driver_words.specs.Words.{default_steps}
 use Rattle.alma_io.specs.Files.{Untold}
 use Rattle.alma_io.specs.Sides.{SinkSide, SourceSide, FilesSide}
-use Rattle.alma_plan.specs.Course.{Course, unfetched, unread, unwritten, unstored, starved, done}
+use Rattle.alma_plan.specs.Course.{Course, unfetched, unread, unwritten, unstored, starved, starved_within, done}
 use Rattle.alma_plan.specs.Plan as plan
 use Rattle.alma_plan.specs.Plan.{Ending}
 use Rattle.alma_plan.proofs.Owns.{IsOwnStatus, own_status}
 use Rattle.alma_driver_outcome.specs.Ends.{ending_in, program, status_of, sample_line, summary_line}
 use Rattle.alma_driver_outcome.specs.Showing.{Prints}
 use Rattle.alma_driver_outcome.specs.Outcome.{Due, due_of, ProgramOutcome, SourceOutcome, IsSampled, SampleOutcome, summed}
-use Rattle.alma_driver_outcome.specs.Course.{Goes, MayCome, NoFile, Runs}
+use Rattle.alma_driver_outcome.specs.Parts.{Goes, MayCome, NoFile, Runs}
 use Rattle.alma_driver_outcome.specs.declared.end.End.{End}
 use Rattle.alma_driver_outcome.specs.declared.end.End.TheVariants.{Succeeded, Failed, BadWord, Refused, Faulted, StepsOut, ReadFault}
 use Rattle.alma_driver_outcome.specs.declared.end.End.TheVariants.{WriteFault, Memory, BadObject, BadCode, TooLong, TooMuchCode}
@@ -72,9 +72,10 @@ inner_of P i j m n printed end own run = by (run no_files [])
         → Inner P printed end
     by (unfetched name none e risen files input out) = absurd none
     by (unread e fetches files reads lost risen out) = absurd (statuses.0 (told_status end _ e))
-    by (unwritten r shown may e fetches files takes out) = absurd (statuses.1 (told_status end _ e))
+    by (unwritten r shown may none e fetches files takes out) = absurd (statuses.1 (told_status end _ e))
     by (unstored r shown stored may is e fetches files risen takes out) = absurd (statuses.1 (told_status end _ e))
-    by (starved e fetches files reads out quiet) = absurd (statuses.2 (told_status end _ e))
+    by (starved e fetches files reads out) = absurd (statuses.2 (told_status end _ e))
+    by (starved_within r shown may e fetches files takes out quiet) = absurd (statuses.2 (told_status end _ e))
     by (done r shown may is fetches files takes out) = record {
       due = may.0;
       outcome = may.1;

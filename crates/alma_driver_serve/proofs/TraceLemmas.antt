@@ -28,7 +28,7 @@ use Rattle.alma_io.specs.Sides.{SinkSide}
 use Rattle.alma_driver_outcome.specs.Ends.{run_end}
 use Rattle.alma_driver_outcome.specs.Outcome.{Due, code_due}
 use Rattle.alma_driver_outcome.specs.Showing.{Traces}
-use Rattle.alma_driver_outcome.specs.Course.{Goes}
+use Rattle.alma_driver_outcome.specs.Parts.{Goes}
 use Rattle.alma_driver_outcome.proofs.CourseLemmas.{goes_cut, goes_whole, goes_within}
 use Rattle.alma_driver_outcome.proofs.RunLemmas.{IsDue, end_is}
 use Rattle.alma_run_laws.proofs.Fronts.{fresh}
@@ -155,7 +155,7 @@ goes_traced code input new watches steps run.StepsOut a b named h =
     goes_over code input new.state watches steps run.StepsOut a b named h.answered h.state h.out h.cause.ok
 goes_traced code input new watches steps run.WriteFault a b named h =
     let le : made (fresh code input) new ≤ steps = omega (arith, h.few) in
-    goes_cut (IsTraceDue code input watches steps) (due_traced code input watches steps) a b refl (record {
+    goes_cut (IsTraceDue code input watches steps) (due_traced code input watches steps) a b refl refl (record {
       front = front_traced code input watches (made (fresh code input) new) steps a.written b.written named le h.front;
       risen = (h.cause.later, h.cause.err);
     })

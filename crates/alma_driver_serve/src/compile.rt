@@ -2,7 +2,7 @@
 ghost use Rattle.std.specs.Prelude.{◌≤◌, length};
 ghost use Rattle.alma_base.specs.Limits.{source_limit};
 ghost use Rattle.alma_driver_outcome.specs.Outcome.{CompileOutcome, SourceOutcome};
-ghost use Rattle.alma_driver_outcome.specs.Course.{Works};
+ghost use Rattle.alma_driver_outcome.specs.Parts.{Works};
 
 use crate::load::load_source;
 use alma_driver_outcome::End;

@@ -3,7 +3,7 @@ ghost use Rattle.std.specs.Prelude.{◌≤◌};
 ghost use Rattle.alma_object.specs.View.{code_of_view};
 ghost use Rattle.alma_driver_words.specs.Words.{greatest_steps};
 ghost use Rattle.alma_driver_outcome.specs.Outcome.{CodeOutcome, ExecOutcome};
-ghost use Rattle.alma_driver_outcome.specs.Course.{Runs};
+ghost use Rattle.alma_driver_outcome.specs.Parts.{Runs};
 
 use crate::input::run_verified;
 use alma_driver_outcome::{End, Showing};

@@ -7,7 +7,7 @@ ghost use Rattle.alma_driver_outcome.specs.Ends.{counts_in};
 ghost use Rattle.alma_code.specs.Reads.{code_reads};
 ghost use Rattle.alma_driver_outcome.specs.Outcome.{code_due, InputOutcome};
 ghost use Rattle.alma_driver_outcome.specs.Showing.{Prints, shown_of};
-ghost use Rattle.alma_driver_outcome.specs.Course.{Goes, Runs};
+ghost use Rattle.alma_driver_outcome.specs.Parts.{Goes, Runs};
 
 use crate::trace::trace_on;
 use alma_base::{INPUT_LIMIT, NoMemory};

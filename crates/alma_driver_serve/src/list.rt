@@ -5,7 +5,7 @@ ghost use Rattle.alma_code.specs.Plain.{code_of};
 ghost use Rattle.alma_object.specs.View.{code_of_view};
 ghost use Rattle.alma_driver_outcome.specs.declared.end.End.TheVariants.{Succeeded};
 ghost use Rattle.alma_driver_outcome.specs.Outcome.{due_of, ListOutcome};
-ghost use Rattle.alma_driver_outcome.specs.Course.{Goes};
+ghost use Rattle.alma_driver_outcome.specs.Parts.{Goes};
 
 use alma_base::NoMemory;
 use alma_code::Code;

@@ -5,7 +5,7 @@ ghost use Rattle.alma_ir.specs.Checked.{IsChecked};
 ghost use Rattle.alma_ir.specs.View.{program_of};
 ghost use Rattle.alma_driver_outcome.specs.Outcome.{IsStop, CheckOutcome, SourceOutcome};
 ghost use Rattle.alma_io.specs.Sides.{SinkSide};
-ghost use Rattle.alma_driver_outcome.specs.Course.{Goes};
+ghost use Rattle.alma_driver_outcome.specs.Parts.{Goes};
 ghost use Rattle.alma_source.specs.Refusal.{IsProgramOf};
 
 use alma_driver_outcome::End;

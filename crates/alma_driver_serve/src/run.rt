@@ -6,7 +6,7 @@ ghost use Rattle.alma_code.specs.Rules.{IsSound};
 ghost use Rattle.alma_driver_words.specs.Words.{greatest_steps};
 ghost use Rattle.alma_driver_outcome.specs.Outcome.{InputOutcome};
 ghost use Rattle.alma_driver_outcome.specs.Showing.{shown_of};
-ghost use Rattle.alma_driver_outcome.specs.Course.{Runs};
+ghost use Rattle.alma_driver_outcome.specs.Parts.{Runs};
 
 use crate::input::run_verified;
 use alma_base::NoMemory;

@@ -7,7 +7,7 @@ ghost use Rattle.alma_driver_words.specs.Words.{greatest_lines};
 ghost use Rattle.alma_driver_outcome.specs.declared.end.End.TheVariants.{Succeeded};
 ghost use Rattle.alma_driver_outcome.specs.Ends.{sample_line, summary_line};
 ghost use Rattle.alma_driver_outcome.specs.Outcome.{due_of, IsSampled, SampleOutcome};
-ghost use Rattle.alma_driver_outcome.specs.Course.{Goes};
+ghost use Rattle.alma_driver_outcome.specs.Parts.{Goes};
 
 use crate::source::run_source;
 use alma_base::NoMemory;

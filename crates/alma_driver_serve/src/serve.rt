@@ -4,7 +4,7 @@ ghost use Rattle.alma_driver_words.specs.Words.{request_of, texts};
 ghost use Rattle.alma_driver_words.specs.Limits.{IsWithinLimits};
 ghost use Rattle.alma_driver_outcome.specs.Words.{limit_of, read_by, IsReadBy};
 ghost use Rattle.alma_driver_outcome.specs.Outcome.{FileOutcome, RequestOutcome, Outcome, AskToRead};
-ghost use Rattle.alma_driver_outcome.specs.Course.{NoFile, Serves};
+ghost use Rattle.alma_driver_outcome.specs.Parts.{NoFile, Serves};
 
 use crate::compile::compile_source;
 use crate::exec::exec_object;
@@ -90,8 +90,8 @@ fn serve<F: Files, I: Source, O: Sink>(
     }
 }
 
-/// Does what the words ask: the end that it comes to, with all its bytes on `out` where none
-/// failed.
+/// Does what the words ask: the end that it comes to. Where nothing failed, all its bytes are on
+/// `out`.
 pub fn perform<F: Files, I: Source, O: Sink>(
     alloc: Global,
     words: &[String],

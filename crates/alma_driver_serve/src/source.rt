@@ -6,7 +6,7 @@ ghost use Rattle.alma_ir.specs.Checked.{IsChecked};
 ghost use Rattle.alma_driver_words.specs.Words.{greatest_steps};
 ghost use Rattle.alma_driver_outcome.specs.Outcome.{ProgramOutcome, SourceOutcome};
 ghost use Rattle.alma_driver_outcome.specs.Showing.{Traces, shown_of};
-ghost use Rattle.alma_driver_outcome.specs.Course.{Runs};
+ghost use Rattle.alma_driver_outcome.specs.Parts.{Runs};
 
 use crate::load::load_source;
 use crate::run::run_code;

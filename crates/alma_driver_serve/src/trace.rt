@@ -5,7 +5,7 @@ ghost use Rattle.alma_verify.specs.Verified.{code_of_verified};
 ghost use Rattle.alma_driver_words.specs.Words.{greatest_steps};
 ghost use Rattle.alma_driver_outcome.specs.Outcome.{code_due};
 ghost use Rattle.alma_driver_outcome.specs.Showing.{Traces};
-ghost use Rattle.alma_driver_outcome.specs.Course.{Goes};
+ghost use Rattle.alma_driver_outcome.specs.Parts.{Goes};
 ghost use Rattle.alma_trace.specs.Resolved.{IsResolved};
 
 use alma_base::NoMemory;

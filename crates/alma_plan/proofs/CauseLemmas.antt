@@ -10,7 +10,7 @@ use Rattle.alma_io.specs.Outside.{FilesStay, Outside, StoredFile, OthersStay, Be
 use Rattle.alma_plan.specs.Plan.{Ending, Due, Plan, Sense, plain, Fetches, Judges, Reads, Ends, Reading, Kept, Finished, Passed}
 use Rattle.alma_plan.specs.Plan.{MayLack, Lacks, Comes}
 use Rattle.alma_plan.specs.Course.{Takes, MayRead, ReadsOnly, GainsPrefix, Course, unfetched, unread, unwritten}
-use Rattle.alma_plan.specs.Course.{unstored, starved, done, Reports, said, unsaid, Scope, scope_of, AnswersWithin, Answers}
+use Rattle.alma_plan.specs.Course.{unstored, starved, starved_within, done, Reports, said, unsaid, Scope, scope_of, AnswersWithin, Answers}
 use Rattle.alma_plan.specs.Causes.{FetchFailed, InputFailed, IsStoredName, MayEnd, unread_end}
 use Rattle.alma_plan.specs.Causes.{unwritten_end, starved_end, due_end, IsWhole, CausesWithin, Causes}
 use Rattle.alma_plan.proofs.OwnEnds.{HasOwnEnds, HaveOneVerdict}
@@ -99,12 +99,14 @@ plain_has_one source one other is also = absurd is
 
 -- ---- the clauses
 
--- What may come ends as the call's own: in a read fault only where a file may be missing, and without a print or a store; and in a read
--- fault where one is missing; in no write fault and no want of memory.
+-- No due has the status of a write fault or of want of memory, and one of a read fault comes only where a file is missing.
 pub record HasOwnDues (scope : Scope) : Type 0 where
+  -- a read fault is due only where a file may be missing, and without a print or a store
   pub reads : (r : Reading) (due : Due) → scope.may r due → due.end.status ≡ 6 → scope.may_lack × (due.out ≡ []) × (due.stored ≡ None)
+  -- no write fault and no want of memory is due
   pub own : (r : Reading) (due : Due) → scope.may r due → (due.end.status ≢ 7) × (due.end.status ≢ 8)
-  pub lacking : scope.lacks → (r : Reading) (due : Due) → scope.may r due → due.end.status ≡ 6
+  -- where a file is missing a read fault is due
+  pub absence : scope.lacks → (r : Reading) (due : Due) → scope.may r due → due.end.status ≡ 6
 
 module _ (program : List ℕ) (scope : Scope) (dues : HasOwnDues scope) (before after : Outside) (status : ℕ) where
   -- how the call may come to an end, and how it reports it
@@ -125,10 +127,12 @@ module _ (program : List ℕ) (scope : Scope) (dues : HasOwnDues scope) (before 
   read_fault_of end course (unsaid s f) e = absurd (omega (arith, s, e))
   read_fault_of end (unfetched name asks q risen files input out) (said s g) e = (inl (name, asks, risen.1), out.bytes_are, files)
   read_fault_of end (unread q fetches files reads lost risen out) (said s g) e = (inr (inl (risen.1, reads)), out.bytes_are, files)
-  read_fault_of end (unwritten r due may q fetches files takes out) (said s g) e = absurd (omega (arith, s, e, of_status end _ q))
+  read_fault_of end (unwritten r due may none q fetches files takes out) (said s g) e = absurd (omega (arith, s, e, of_status end _ q))
   read_fault_of end (unstored r due stored may is q fetches files risen takes out) (said s g) e =
       absurd (omega (arith, s, e, of_status end _ q))
-  read_fault_of end (starved q fetches files reads out faults) (said s g) e = absurd (omega (arith, s, e, of_status end _ q))
+  read_fault_of end (starved q fetches files reads out) (said s g) e = absurd (omega (arith, s, e, of_status end _ q))
+  read_fault_of end (starved_within r due may q fetches files takes out quiet) (said s g) e =
+      absurd (omega (arith, s, e, of_status end _ q))
   read_fault_of end (done r due may is fetches files takes out) (said s g) e =
       let found = dues.reads r due may (of_status due.end end is ∙ sym s ∙ e) in (
         inr (inr found.0),
@@ -140,28 +144,32 @@ module _ (program : List ℕ) (scope : Scope) (dues : HasOwnDues scope) (before 
   write_fault_of end course (unsaid s f) e = inr (inl f.risen.1)
   write_fault_of end (unfetched name asks q risen files input out) (said s g) e = absurd (omega (arith, s, e, of_status end _ q))
   write_fault_of end (unread q fetches files reads lost risen out) (said s g) e = absurd (omega (arith, s, e, of_status end _ q))
-  write_fault_of end (unwritten r due may q fetches files takes out) (said s g) e = inl out.risen.1
+  write_fault_of end (unwritten r due may none q fetches files takes out) (said s g) e = inl out.risen.1
   write_fault_of end (unstored r due stored may is q fetches files risen takes out) (said s g) e = inr (inr risen.1)
-  write_fault_of end (starved q fetches files reads out faults) (said s g) e = absurd (omega (arith, s, e, of_status end _ q))
+  write_fault_of end (starved q fetches files reads out) (said s g) e = absurd (omega (arith, s, e, of_status end _ q))
+  write_fault_of end (starved_within r due may q fetches files takes out quiet) (said s g) e =
+      absurd (omega (arith, s, e, of_status end _ q))
   write_fault_of end (done r due may is fetches files takes out) (said s g) e =
       absurd ((dues.own r due may).0 (of_status due.end end is ∙ sym s ∙ e))
 
   prefix_of : (end : Ending) → CourseTo end → GainsPrefix scope.may before.out after.out
   prefix_of end (unfetched name asks q risen files input out) = inl out.bytes_are
   prefix_of end (unread q fetches files reads lost risen out) = inl out.bytes_are
-  prefix_of end (unwritten r due may q fetches files takes out) = inr (r, due, may, out.front)
+  prefix_of end (unwritten r due may none q fetches files takes out) = inr (r, due, may, out.front)
   prefix_of end (unstored r due stored may is q fetches files risen takes out) =
       inr (r, due, may, whole_front before.out.written after.out.written due.out out.bytes_are)
-  prefix_of end (starved q fetches files reads out faults) = out
+  prefix_of end (starved q fetches files reads out) = inl out.bytes_are
+  prefix_of end (starved_within r due may q fetches files takes out quiet) = inr (r, due, may, out)
   prefix_of end (done r due may is fetches files takes out) =
       inr (r, due, may, whole_front before.out.written after.out.written due.out out.bytes_are)
 
   end_of : (end : Ending) → CourseTo end → MayEnd program scope.may end
   end_of end (unfetched name asks q risen files input out) = unread_end q
   end_of end (unread q fetches files reads lost risen out) = unread_end q
-  end_of end (unwritten r due may q fetches files takes out) = unwritten_end q
+  end_of end (unwritten r due may none q fetches files takes out) = unwritten_end q
   end_of end (unstored r due stored may is q fetches files risen takes out) = unwritten_end q
-  end_of end (starved q fetches files reads out faults) = starved_end q
+  end_of end (starved q fetches files reads out) = starved_end q
+  end_of end (starved_within r due may q fetches files takes out quiet) = starved_end q
   end_of end (done r due may is fetches files takes out) = due_end r due may is
 
   -- the files stay, but for one that is to be stored
@@ -176,19 +184,21 @@ module _ (program : List ℕ) (scope : Scope) (dues : HasOwnDues scope) (before 
   files_of : (end : Ending) → CourseTo end → FilesAre
   files_of end (unfetched name asks q risen files input out) = inl files
   files_of end (unread q fetches files reads lost risen out) = inl files
-  files_of end (unwritten r due may q fetches files takes out) = inl files
+  files_of end (unwritten r due may none q fetches files takes out) = inl files
   files_of end (unstored r due stored may is q fetches files risen takes out) = inr (stored.name, (r, due, stored, may, is, refl), files)
-  files_of end (starved q fetches files reads out faults) = inl files
+  files_of end (starved q fetches files reads out) = inl files
+  files_of end (starved_within r due may q fetches files takes out quiet) = inl files
   files_of end (done r due may is fetches files takes out) = become_are r due may due.stored refl files
 
   starved_files_of : (end : Ending) → CourseTo end → ReportOf end → status ≡ 8 → FilesStay before.files after.files
   starved_files_of end course (unsaid s f) e = absurd (omega (arith, s, e))
   starved_files_of end (unfetched name asks q risen files input out) (said s g) e = files
   starved_files_of end (unread q fetches files reads lost risen out) (said s g) e = files
-  starved_files_of end (unwritten r due may q fetches files takes out) (said s g) e = files
+  starved_files_of end (unwritten r due may none q fetches files takes out) (said s g) e = files
   starved_files_of end (unstored r due stored may is q fetches files risen takes out) (said s g) e =
       absurd (omega (arith, s, e, of_status end _ q))
-  starved_files_of end (starved q fetches files reads out faults) (said s g) e = files
+  starved_files_of end (starved q fetches files reads out) (said s g) e = files
+  starved_files_of end (starved_within r due may q fetches files takes out quiet) (said s g) e = files
   starved_files_of end (done r due may is fetches files takes out) (said s g) e =
       absurd ((dues.own r due may).1 (of_status due.end end is ∙ sym s ∙ e))
 
@@ -202,11 +212,13 @@ module _ (program : List ℕ) (scope : Scope) (dues : HasOwnDues scope) (before 
   whole_of end course (unsaid s f) no_read no_write no_want = absurd (no_write s)
   whole_of end (unfetched name asks q risen files input out) (said s g) no_read no_write no_want = absurd (no_read (s ∙ of_status end _ q))
   whole_of end (unread q fetches files reads lost risen out) (said s g) no_read no_write no_want = absurd (no_read (s ∙ of_status end _ q))
-  whole_of end (unwritten r due may q fetches files takes out) (said s g) no_read no_write no_want =
+  whole_of end (unwritten r due may none q fetches files takes out) (said s g) no_read no_write no_want =
       absurd (no_write (s ∙ of_status end _ q))
   whole_of end (unstored r due stored may is q fetches files risen takes out) (said s g) no_read no_write no_want =
       absurd (no_write (s ∙ of_status end _ q))
-  whole_of end (starved q fetches files reads out faults) (said s g) no_read no_write no_want = absurd (no_want (s ∙ of_status end _ q))
+  whole_of end (starved q fetches files reads out) (said s g) no_read no_write no_want = absurd (no_want (s ∙ of_status end _ q))
+  whole_of end (starved_within r due may q fetches files takes out quiet) (said s g) no_read no_write no_want =
+      absurd (no_want (s ∙ of_status end _ q))
   whole_of end (done r due may is fetches files takes out) (said s g) no_read no_write no_want = (
     r,
     due,
@@ -220,9 +232,10 @@ module _ (program : List ℕ) (scope : Scope) (dues : HasOwnDues scope) (before 
 
   writes_shown_of : (end : Ending) → CourseTo end → ReportOf end → WritesGrew before after → (status ≡ 7) ⊎ (status ≡ 8)
   writes_shown_of end course (unsaid s f) w = inl s
-  writes_shown_of end (unwritten r due may q fetches files takes out) (said s g) w = inl (s ∙ of_status end _ q)
+  writes_shown_of end (unwritten r due may none q fetches files takes out) (said s g) w = inl (s ∙ of_status end _ q)
   writes_shown_of end (unstored r due stored may is q fetches files risen takes out) (said s g) w = inl (s ∙ of_status end _ q)
-  writes_shown_of end (starved q fetches files reads out faults) (said s g) w = inr (s ∙ of_status end _ q)
+  writes_shown_of end (starved q fetches files reads out) (said s g) w = inr (s ∙ of_status end _ q)
+  writes_shown_of end (starved_within r due may q fetches files takes out quiet) (said s g) w = inr (s ∙ of_status end _ q)
   writes_shown_of end course (said s g) (inr (inl h)) = absurd (omega (arith, h, g.quiet))
   writes_shown_of end (unfetched name asks q risen files input out) (said s g) (inl h) = absurd (omega (arith, h, out.quiet))
   writes_shown_of end (unfetched name asks q risen files input out) (said s g) (inr (inr h)) = absurd (omega (arith, h, files.1))
@@ -242,9 +255,10 @@ module _ (program : List ℕ) (scope : Scope) (dues : HasOwnDues scope) (before 
   reads_shown_of end course (unsaid s f) grew = inl (inr (inl f.risen.1))
   reads_shown_of end (unfetched name asks q risen files input out) (said s g) grew = inr (inl (s ∙ of_status end _ q))
   reads_shown_of end (unread q fetches files reads lost risen out) (said s g) grew = inr (inl (s ∙ of_status end _ q))
-  reads_shown_of end (unwritten r due may q fetches files takes out) (said s g) grew = inl (inl out.risen.1)
+  reads_shown_of end (unwritten r due may none q fetches files takes out) (said s g) grew = inl (inl out.risen.1)
   reads_shown_of end (unstored r due stored may is q fetches files risen takes out) (said s g) grew = inl (inr (inr risen.1))
-  reads_shown_of end (starved q fetches files reads out faults) (said s g) grew = inr (inr (s ∙ of_status end _ q))
+  reads_shown_of end (starved q fetches files reads out) (said s g) grew = inr (inr (s ∙ of_status end _ q))
+  reads_shown_of end (starved_within r due may q fetches files takes out quiet) (said s g) grew = inr (inr (s ∙ of_status end _ q))
   reads_shown_of end (done r due may is fetches files takes out) (said s g) grew =
       absurd (quiet_reads fetches (takes_quiet r before.input after.input takes) grew)
 
@@ -255,10 +269,12 @@ module _ (program : List ℕ) (scope : Scope) (dues : HasOwnDues scope) (before 
   input_of : (end : Ending) → CourseTo end → (after.input ≡ before.input) ⊎ MayRead scope.may
   input_of end (unfetched name asks q risen files input out) = inl input
   input_of end (unread q fetches files reads lost risen out) = inr reads
-  input_of end (unwritten r due may q fetches files takes out) = takes_read scope.may r due before.input after.input may takes
+  input_of end (unwritten r due may none q fetches files takes out) = takes_read scope.may r due before.input after.input may takes
   input_of end (unstored r due stored may is q fetches files risen takes out) =
       takes_read scope.may r due before.input after.input may takes
-  input_of end (starved q fetches files reads out faults) = starved_input reads
+  input_of end (starved q fetches files reads out) = starved_input reads
+  input_of end (starved_within r due may q fetches files takes out quiet) =
+      takes_read scope.may r due before.input after.input may takes
   input_of end (done r due may is fetches files takes out) = takes_read scope.may r due before.input after.input may takes
 
   absence_shown_of : (end : Ending) → CourseTo end → ReportOf end → scope.lacks → (status ≡ 6)
@@ -266,11 +282,12 @@ module _ (program : List ℕ) (scope : Scope) (dues : HasOwnDues scope) (before 
   absence_shown_of end course (unsaid s f) l = inr (inl s)
   absence_shown_of end (unfetched name asks q risen files input out) (said s g) l = inl (s ∙ of_status end _ q)
   absence_shown_of end (unread q fetches files reads lost risen out) (said s g) l = inl (s ∙ of_status end _ q)
-  absence_shown_of end (unwritten r due may q fetches files takes out) (said s g) l = inr (inl (s ∙ of_status end _ q))
+  absence_shown_of end (unwritten r due may none q fetches files takes out) (said s g) l = inr (inl (s ∙ of_status end _ q))
   absence_shown_of end (unstored r due stored may is q fetches files risen takes out) (said s g) l = inr (inl (s ∙ of_status end _ q))
-  absence_shown_of end (starved q fetches files reads out faults) (said s g) l = inr (inr (s ∙ of_status end _ q))
+  absence_shown_of end (starved q fetches files reads out) (said s g) l = inr (inr (s ∙ of_status end _ q))
+  absence_shown_of end (starved_within r due may q fetches files takes out quiet) (said s g) l = inr (inr (s ∙ of_status end _ q))
   absence_shown_of end (done r due may is fetches files takes out) (said s g) l =
-      inl (s ∙ sym (of_status due.end end is) ∙ dues.lacking l r due may)
+      inl (s ∙ sym (of_status due.end end is) ∙ dues.absence l r due may)
 
   -- what a call's status says of it
   pub causes_within : AnswersWithin program scope before after status → CausesWithin program scope before after status
@@ -298,5 +315,5 @@ causes_of sense program plan one own before after status =
     causes_within program (scope_of sense program plan before) (record {
       reads = due_reads sense program told left plan own;
       own = due_own sense program told left plan own;
-      lacking = λ l. due_lacks sense program told left one plan l;
+      absence = λ l. due_lacks sense program told left one plan l;
     }) before after status

@@ -18,8 +18,9 @@ use Rattle.alma_io.specs.Outside.{HasRisen, FilesStay, StoredFile, OthersStay, B
 use Rattle.alma_plan.specs.Plan.{Ending, Due, Plan, Sense, Fetches, Judges, Reads, Ends, Reading, Kept, Finished, Passed, Asks}
 use Rattle.alma_plan.specs.Plan.{Comes, silent, read_fault, write_fault, no_memory, too_long}
 use Rattle.alma_plan.specs.Refusals.{stop_end, fetch_stop, read_stop}
-use Rattle.alma_plan.specs.Course.{Takes, IsBegun, MayRead, ReadsOnly, GainsPrefix, Goes, cut_short, hungry}
-use Rattle.alma_plan.specs.Course.{hungry_within, whole, Course, Follows, unfetched, unread, unwritten, unstored, starved, done}
+use Rattle.alma_plan.specs.Course.{Takes, IsBegun, MayRead, ReadsOnly, Goes, cut_short, hungry}
+use Rattle.alma_plan.specs.Course.{hungry_within, whole, Course, Follows, unfetched, unread, unwritten, unstored, starved}
+use Rattle.alma_plan.specs.Course.{starved_within, done}
 
 -- a sink that nothing was done to gained nothing
 pub gains_none : (o : SinkSide) → Gains o o []
@@ -33,7 +34,7 @@ files_same f = (λ name. refl, refl)
 pub course_starved : (program : List ℕ) (asks : List ℕ → Type 0) (may : Reading → Due → Type 0) (f : FilesSide) (i : SourceSide)
     (o : SinkSide)
     → Course program asks may f f i i o o (no_memory program)
-course_starved program asks may f i o = starved refl refl (files_same f) (inl refl) (inl (appends_none o.written)) refl
+course_starved program asks may f i o = starved refl refl (files_same f) (inl refl) (gains_none o)
 
 -- what may be asked for, and what may come, by what the files told before
 asks_told : {V L : Type 0} (sense : Sense V L) (told told' : List ℕ → Told) → ((name : List ℕ) → told' name ≡ told name)
@@ -100,21 +101,19 @@ module _ (program : List ℕ) (A B : List ℕ → Type 0) (P Q : Reading → Due
       (stay_twice f g h stay files) input out
   course_map asked map f g h i j o p end stay quiet (unread e fetches files reads lost risen out) =
       unread e (fetches ∙ quiet) (stay_twice f g h stay files) (read_map P Q map reads) lost risen out
-  course_map asked map f g h i j o p end stay quiet (unwritten r due may e fetches files takes out) =
-      unwritten r due (map r due may) e (fetches ∙ quiet) (stay_twice f g h stay files) takes out
+  course_map asked map f g h i j o p end stay quiet (unwritten r due may none e fetches files takes out) =
+      unwritten r due (map r due may) none e (fetches ∙ quiet) (stay_twice f g h stay files) takes out
   course_map asked map f g h i j o p end stay quiet (unstored r due stored may is e fetches files risen takes out) =
       unstored r due stored (map r due may) is e (fetches ∙ quiet) (λ other apart. files other apart ∙ stay.0 other)
       (risen_behind f.store_faults g.store_faults h.store_faults stay.1 risen) takes out
-  course_map asked map f g h i j o p end stay quiet (starved e fetches files reads out faults) =
-      starved e (fetches ∙ quiet) (stay_twice f g h stay files) (by_reads reads) (by_out out) faults
+  course_map asked map f g h i j o p end stay quiet (starved e fetches files reads out) =
+      starved e (fetches ∙ quiet) (stay_twice f g h stay files) (by_reads reads) out
     where
       by_reads : ReadsOnly P i j → ReadsOnly Q i j
       by_reads (inl same) = inl same
       by_reads (inr r) = inr (read_map P Q map r.0, r.1)
-
-      by_out : GainsPrefix P o p → GainsPrefix Q o p
-      by_out (inl none) = inl none
-      by_out (inr front) = inr (front.0, front.1, map front.0 front.1 front.2, front.3)
+  course_map asked map f g h i j o p end stay quiet (starved_within r due may e fetches files takes out faults) =
+      starved_within r due (map r due may) e (fetches ∙ quiet) (stay_twice f g h stay files) takes out faults
   course_map asked map f g h i j o p end stay quiet (done r due may is fetches files takes out) =
       done r due (map r due may) is (fetches ∙ quiet) (become_behind f g h due.stored stay files) takes out
 
@@ -149,7 +148,7 @@ module _ {V L : Type 0} (sense : Sense V L) (program : List ℕ) where
   course_unfetched name limit next fetch.TooLong f g i o stay is =
       done Kept (silent (too_long program)) (inr (inl (is.0, refl, refl))) refl is.1 stay refl (gains_none o)
   course_unfetched name limit next fetch.Memory f g i o stay is =
-      starved refl is stay (inl refl) (inl (appends_none o.written)) refl
+      starved refl is stay (inl refl) (gains_none o)
 
   -- a source was judged
   pub course_judged : (source : List ℕ) (next : V → Plan V L) (verdict : V) (f h : FilesSide) (i j : SourceSide) (o p : SinkSide)
@@ -175,10 +174,10 @@ module _ {V L : Type 0} (sense : Sense V L) (program : List ℕ) where
   -- nothing more is read
   pub course_ends : (last : L) (f : FilesSide) (i : SourceSide) (o p : SinkSide) (end : Ending) → Goes program (sense.means last) o p end
       → Follows sense program (Ends last) f f i i o p end
-  course_ends last f i o p end (cut_short due may e out) = unwritten Kept due (refl, may) e refl (files_same f) refl out
-  course_ends last f i o p end (hungry e out) = starved e refl (files_same f) (inl refl) (inl out.bytes_are) out.quiet
+  course_ends last f i o p end (cut_short due may none e out) = unwritten Kept due (refl, may) none e refl (files_same f) refl out
+  course_ends last f i o p end (hungry e out) = starved e refl (files_same f) (inl refl) out
   course_ends last f i o p end (hungry_within due may e out faults) =
-      starved e refl (files_same f) (inl refl) (inr (Kept, due, (refl, may), out)) faults
+      starved_within Kept due (refl, may) e refl (files_same f) refl out faults
   course_ends last f i o p end (whole due may is none out) =
       done Kept due (refl, may) is refl (subst (Become f f) (sym none) (files_same f)) refl out
 
@@ -198,10 +197,10 @@ module _ {V L : Type 0} (sense : Sense V L) (program : List ℕ) where
     comes due m = inr (bytes, was_left i.left j.left bytes c at_end, short, refl, m)
 
     by : Goes program (sense.means (last bytes)) o p end → Follows sense program (Reads last) f f i j o p end
-    by (cut_short due may e out) = unwritten Finished due (comes due may) e refl (files_same f) takes out
-    by (hungry e out) = starved e refl (files_same f) (inr (reading_due f.told i.left last some, begun)) (inl out.bytes_are) out.quiet
+    by (cut_short due may none e out) = unwritten Finished due (comes due may) none e refl (files_same f) takes out
+    by (hungry e out) = starved e refl (files_same f) (inr (reading_due f.told i.left last some, begun)) out
     by (hungry_within due may e out faults) =
-        starved e refl (files_same f) (inr (reading_due f.told i.left last some, begun)) (inr (Finished, due, comes due may, out)) faults
+        starved_within Finished due (comes due may) e refl (files_same f) takes out faults
     by (whole due may is none out) = done Finished due (comes due may) is refl (subst (Become f f) (sym none) (files_same f)) takes out
 
   abbrev not_read : ReadAll → Result (Vec ℕ) ReadAll
@@ -219,7 +218,7 @@ module _ {V L : Type 0} (sense : Sense V L) (program : List ℕ) where
   course_unread last some reading.TooLong f i j o loses cause more past =
       done Passed (silent (too_long program)) (inl (more refl, refl, refl)) refl refl (files_same f) (past refl, cause) (gains_none o)
   course_unread last some reading.Memory f i j o loses cause more past =
-      starved refl refl (files_same f) (inr (reading_due f.told i.left last some, (loses, cause))) (inl (appends_none o.written)) refl
+      starved refl refl (files_same f) (inr (reading_due f.told i.left last some, (loses, cause))) (gains_none o)
 
   -- bytes were stored
   pub course_stored : (last : L) (due : Due) (stored : StoredFile) (f g : FilesSide) (i : SourceSide) (o : SinkSide) → sense.means last due
@@ -240,4 +239,4 @@ module _ {V L : Type 0} (sense : Sense V L) (program : List ℕ) where
   -- memory ran out at a store: every file is as before
   pub course_starved_store : (last : L) (f g : FilesSide) (i : SourceSide) (o : SinkSide) → g.fetch_faults ≡ f.fetch_faults → FilesStay f g
       → Follows sense program (Ends last) f g i i o o (no_memory program)
-  course_starved_store last f g i o quiet stay = starved refl quiet stay (inl refl) (inl (appends_none o.written)) refl
+  course_starved_store last f g i o quiet stay = starved refl quiet stay (inl refl) (gains_none o)

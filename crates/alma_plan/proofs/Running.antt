@@ -56,7 +56,7 @@ module _ (program : List ℕ) (failed : Ending) (code : PlainCode) (input : List
   goes_fresh run.StepsOut h = goes_whole run.StepsOut h.answered h.state h.out h.cause.ok
   goes_fresh run.WriteFault h =
       let le : made (fresh code input) new ≤ steps = omega (arith, h.few) in
-      cut_short (code_due program failed code input steps) refl refl (record {
+      cut_short (code_due program failed code input steps) refl refl refl (record {
         front = front_of_more a.written b.written code input (made (fresh code input) new) steps (start code) le h.write_fault;
         risen = (h.cause.later, h.cause.err);
       })
@@ -84,7 +84,8 @@ module _ (program : List ℕ) (failed : Ending) (p : Program) (code : PlainCode)
   pub goes_program : (input : List ℕ) (steps : ℕ) (a b : SinkSide) (end : Ending) → IsCodeFor p code
       → Goes program (IsRun program failed code input steps) a b end
       → Goes program (Means program failed (Runs p input steps)) a b end
-  goes_program input steps a b end is (cut_short due may e out) = cut_short due (due_of_program input steps due is may) e out
+  goes_program input steps a b end is (cut_short due may none e out) =
+      cut_short due (due_of_program input steps due is may) none e out
   goes_program input steps a b end is (hungry e out) = hungry e out
   goes_program input steps a b end is (hungry_within due may e out faults) =
       hungry_within due (due_of_program input steps due is may) e out faults

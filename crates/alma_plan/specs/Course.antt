@@ -45,8 +45,9 @@ module _ (may : Reading → Due → Type 0) where
 
 -- How the last part of a call, which writes to out alone, may come to this end, where this may come.
 pub data Goes (program : List ℕ) (may : Due → Type 0) (out out' : SinkSide) (end : Ending) : Type 0 where
-  -- a write failed within the bytes of what may come
-  cut_short : (due : Due) → may due → end ≡ write_fault program → FailsWithin out out' due.out → Goes program may out out' end
+  -- a write failed within the bytes of what may come, where nothing is to be stored
+  cut_short : (due : Due) → may due → due.stored ≡ None → end ≡ write_fault program → FailsWithin out out' due.out
+      → Goes program may out out' end
   -- memory ran out before there was anything, or within the bytes of what may come
   hungry : end ≡ no_memory program → Gains out out' [] → Goes program may out out' end
   hungry_within : (due : Due) → may due → end ≡ no_memory program → AppendsFront out.written out'.written due.out → out'.faults ≡ out.faults
@@ -66,17 +67,22 @@ pub data Course (program : List ℕ) (asks : List ℕ → Type 0) (may : Reading
   unread : end ≡ read_fault program → files'.fetch_faults ≡ files.fetch_faults → FilesStay files files' → MayRead may
       → LosesAtMost input.left input'.left (input_limit + 1) → HasRisen input.faults input'.faults → Gains out out' []
       → Course program asks may files files' input input' out out' end
-  -- a write failed within the bytes of what may come
-  unwritten : (reading : Reading) (due : Due) → may reading due → end ≡ write_fault program → files'.fetch_faults ≡ files.fetch_faults
-      → FilesStay files files'
+  -- a write failed within the bytes of what may come, where nothing is to be stored
+  unwritten : (reading : Reading) (due : Due) → may reading due → due.stored ≡ None → end ≡ write_fault program
+      → files'.fetch_faults ≡ files.fetch_faults → FilesStay files files'
       → Takes reading input input' → FailsWithin out out' due.out → Course program asks may files files' input input' out out' end
   -- a store failed, when out had all that is due
   unstored : (reading : Reading) (due : Due) (stored : StoredFile) → may reading due → due.stored ≡ Some stored → end ≡ write_fault program
       → files'.fetch_faults ≡ files.fetch_faults → OthersStay files files' stored.name → HasRisen files.store_faults files'.store_faults
       → Takes reading input input' → Gains out out' due.out → Course program asks may files files' input input' out out' end
-  -- memory ran out within the bytes of what may come
+  -- memory ran out before anything was written
   starved : end ≡ no_memory program → files'.fetch_faults ≡ files.fetch_faults → FilesStay files files' → ReadsOnly may input input'
-      → GainsPrefix may out out' → out'.faults ≡ out.faults → Course program asks may files files' input input' out out' end
+      → Gains out out' [] → Course program asks may files files' input input' out out' end
+  -- memory ran out within the bytes of what may come
+  starved_within : (reading : Reading) (due : Due) → may reading due → end ≡ no_memory program
+      → files'.fetch_faults ≡ files.fetch_faults → FilesStay files files'
+      → Takes reading input input' → AppendsFront out.written out'.written due.out → out'.faults ≡ out.faults
+      → Course program asks may files files' input input' out out' end
   -- what may come came, whole
   done : (reading : Reading) (due : Due) → may reading due → due.end ≡ end → files'.fetch_faults ≡ files.fetch_faults
       → Become files files' due.stored
@@ -94,12 +100,15 @@ pub data Reports (end : Ending) (old new : SinkSide) (status : ℕ) : Type 0 whe
   said : status ≡ end.status → Gains old new end.text → Reports end old new status
   unsaid : status ≡ exit.write_fault → FailsWithin old new end.text → Reports end old new status
 
--- What a call may ask for and come to, by what is outside before: the files that it may ask for, whether one that it may ask for, and
--- one that it does, is told to be missing, and what may come.
+-- What a call may ask for and come to, by what is outside before.
 pub record Scope : Type 1 where
+  -- it may ask for this file
   pub asks : (name : List ℕ) → Type 0
+  -- a file that it may ask for is told to be missing
   pub may_lack : Type 0
+  -- a file that it does ask for is told to be missing
   pub lacks : Type 0
+  -- this may become of the input, and this may come
   pub may : Reading → Due → Type 0
 
 -- that of a plan

@@ -1,6 +1,6 @@
-//! What the top calls of programs share: plans of what is read, how a call may go by its plan, and
-//! how its end is reported; and programs as parts of plans: a file that holds a source, and the run
-//! or the object of a program.
+//! What the top calls of all programs share: how a call may go within its scope, what its status
+//! tells, and how its end is reported; plans of what is read, each of which is a scope; and programs
+//! as parts of plans: a file that holds a source, and the run or the object of a program.
 #![tactic(auto)]
 
 mod end;

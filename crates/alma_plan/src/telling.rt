@@ -37,8 +37,8 @@ fn tell_named<'t, E: Sink>(err: &mut E, program: &'t [u8], name: &'t [u8], line:
     )
 }
 
-/// Says on err, in the name of a program, that a run stopped in a fault, with its line where that is
-/// known: the status of that, or that of a write fault where err fails.
+/// Says on err, in the name of a program, that a run stopped in a fault, with its line where that
+/// is known: the status of that, or that of a write fault where err fails.
 pub fn tell_fault<E: Sink>(err: &mut E, program: &[u8], fault: RunFault, line: u32) -> Status
     ensures { Reports (tells program.now exit.faulted (fault_words fault line)) (E.side err.old)
         (E.side err.new) result.0 }
@@ -46,8 +46,8 @@ pub fn tell_fault<E: Sink>(err: &mut E, program: &[u8], fault: RunFault, line: u
     tell_named(err, program, fault.text().as_bytes(), line)
 }
 
-/// Says on err, in the name of a program, that all steps were made: the status of that, or that of a
-/// write fault where err fails.
+/// Says on err, in the name of a program, that all steps were made: the status of that, or that of
+/// a write fault where err fails.
 pub fn tell_steps_out<E: Sink>(err: &mut E, program: &[u8]) -> Status
     ensures { Reports (steps_out program.now) (E.side err.old) (E.side err.new) result.0 }
 {

@@ -3,7 +3,7 @@ use Rattle.alma_code.specs.Plain.{PlainCode}
 use Rattle.alma_code.specs.Rules.{code_fault}
 use Rattle.alma_object.specs.View.{code_of_view}
 use Rattle.alma_verify.specs.Verified.{code_of_verified}
-use Rattle.alma_driver_outcome.specs.Course.{Runs}
+use Rattle.alma_driver_outcome.specs.Parts.{Runs}
 use Rattle.alma_driver_outcome.specs.Outcome.{CodeOutcome}
 use Rattle.alma_driver_outcome.proofs.DriverLemmas.{runs_executed, runs_unsound}
 use Rattle.alma_driver_serve.proofs.exec.exec_view.Goals as goal

@@ -17,6 +17,7 @@ returns-in-Ok g c =
 
 pub returns-in-Err : goal.returns-in-Err
 returns-in-Err g c =
-    rw (c.from-in-Err.ensures ∙ ap end_of_stop c.from.ensures) (runs_lost (code_of_verified c.args.code) c.args.steps (shown_of c.args.showing) (g.I.Source.side c.args.input.now)
+    rw (c.from-in-Err.ensures ∙ ap end_of_stop c.from.ensures)
+    (runs_lost (code_of_verified c.args.code) c.args.steps (shown_of c.args.showing) (g.I.Source.side c.args.input.now)
     (g.I.Source.side c.read_all.new.source) c.in-Err.error (g.O.Sink.side c.args.out.now) c.requires.reads
     c.in-Err.ensures.prefix c.in-Err.ensures.cause c.in-Err.ensures.too_long c.in-Err.ensures.one_past)

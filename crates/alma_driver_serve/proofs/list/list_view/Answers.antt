@@ -1,7 +1,7 @@
 use Rattle.std.proofs.Common.{subst}
 use Rattle.alma_code.specs.Plain.{PlainCode}
 use Rattle.alma_object.specs.View.{code_of_view}
-use Rattle.alma_driver_outcome.specs.Course.{Goes}
+use Rattle.alma_driver_outcome.specs.Parts.{Goes}
 use Rattle.alma_driver_outcome.proofs.DriverLemmas.{IsListed}
 use Rattle.alma_driver_outcome.proofs.CourseLemmas.{goes_starved}
 use Rattle.alma_driver_serve.proofs.list.list_view.Goals as goal

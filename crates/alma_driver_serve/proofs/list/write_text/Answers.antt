@@ -14,4 +14,5 @@ returns-in-Ok g c =
 pub returns-in-Err : goal.returns-in-Err
 returns-in-Err g c =
     let due = due_of (Succeeded None) c.args.text.now in
-    goes_cut (λ (d : Due). d ≡ due) due (g.O.Sink.side c.args.out.now) (g.O.Sink.side c.write_all.new.sink) refl c.in-Err.ensures.writes
+    goes_cut (λ (d : Due). d ≡ due) due (g.O.Sink.side c.args.out.now) (g.O.Sink.side c.write_all.new.sink) refl refl
+    c.in-Err.ensures.writes

@@ -1,6 +1,6 @@
 use Rattle.std.proofs.Common.{subst, sym, ◌∙◌}
 use Rattle.alma_code.specs.Plain.{PlainCode, code_of}
-use Rattle.alma_driver_outcome.specs.Course.{Runs}
+use Rattle.alma_driver_outcome.specs.Parts.{Runs}
 use Rattle.alma_driver_outcome.specs.Outcome.{InputOutcome}
 use Rattle.alma_driver_outcome.specs.Showing.{shown_of}
 use Rattle.alma_driver_outcome.proofs.CourseLemmas.{runs_starved}

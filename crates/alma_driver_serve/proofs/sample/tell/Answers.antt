@@ -17,4 +17,4 @@ pub returns-in-Err : goal.returns-in-Err
 returns-in-Err g c =
     goes_cut (IsSummary c.args.lines c.args.bytes c.args.told.printed c.args.told.status)
     (due_of (Succeeded None) (sample_line c.args.lines c.args.bytes c.args.told.printed c.args.told.status))
-    (g.O.Sink.side c.args.out.now) (g.O.Sink.side c.write_summary.new.out) refl c.in-Err.ensures
+    (g.O.Sink.side c.args.out.now) (g.O.Sink.side c.write_summary.new.out) refl refl c.in-Err.ensures

@@ -5,7 +5,7 @@ use Rattle.alma_object.specs.View.{code_of_view}
 use Rattle.alma_trace.specs.declared.watch.Watch.{Watch}
 use Rattle.alma_trace.specs.Resolved.{IsResolved}
 use Rattle.alma_verify.specs.Verified.{code_of_verified}
-use Rattle.alma_driver_outcome.specs.Course.{Goes}
+use Rattle.alma_driver_outcome.specs.Parts.{Goes}
 use Rattle.alma_driver_outcome.specs.Showing.{Traces}
 use Rattle.alma_driver_outcome.proofs.CourseLemmas.{goes_starved}
 use Rattle.alma_driver_outcome.proofs.RunLemmas.{IsDue}

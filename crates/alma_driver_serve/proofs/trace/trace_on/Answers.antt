@@ -1,7 +1,7 @@
 use Rattle.std.proofs.Common.{◌≡◌, ◌∙◌, List, ℕ, map, ap, subst}
 use Rattle.std.specs.Borrow.{Bor}
 use Rattle.alma_verify.specs.Verified.{code_of_verified}
-use Rattle.alma_driver_outcome.specs.Course.{Goes}
+use Rattle.alma_driver_outcome.specs.Parts.{Goes}
 use Rattle.alma_driver_outcome.specs.Showing.{Traces}
 use Rattle.alma_driver_outcome.proofs.CourseLemmas.{goes_starved}
 use Rattle.alma_driver_outcome.proofs.RunLemmas.{IsDue}

@@ -31,6 +31,6 @@ pub returns-in-Err : goal.returns-in-Err
 returns-in-Err g c =
     let made = ok_of c.play_all.result (c.play_all.new.pool ≡ after_turns c.args.pool.now (turns_in c.args.turns.now))
     (sym c.is_err.ensures.value ∙ c.if-is_err.false) c.play_all.ensures in
-    cut_short (prints (shown_text 0 (after_turns c.args.pool.now (turns_in c.args.turns.now)).programs)) refl refl
+    cut_short (prints (shown_text 0 (after_turns c.args.pool.now (turns_in c.args.turns.now)).programs)) refl refl refl
     (subst (λ (p : PoolView). FailsWithin (g.O.Sink.side c.args.out.now) (g.O.Sink.side c.show_all.new.out) (shown_text 0 p.programs)) made
     c.in-Err.ensures)

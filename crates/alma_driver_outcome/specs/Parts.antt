@@ -1,4 +1,4 @@
--- How the parts of a call that comes to an outcome may go, in the words that all programs share: to their end, or into a fault or want of
+-- How the parts of a call that comes to an outcome may go, in the frame that all programs share: to their end, or into a fault or want of
 -- memory.
 use Rattle.std.specs.Prelude.{◌≡◌, List, ℕ}
 use Rattle.alma_io.specs.Sides.{SinkSide, SourceSide, FilesSide}
@@ -32,14 +32,14 @@ abbrev pub Serves : (asks : List ℕ → Type 0) → (Due → Type 0) → FilesS
 Serves asks outcome files files' input input' out out' end =
     (file : List ℕ) → Course program asks (MayCome file outcome) files files' input input' out out' (ending_in file end)
 
--- no file
+-- a part that asks for no file
 abbrev pub NoFile : List ℕ → Type 0
 NoFile name = ⊥
 
--- How one may that leaves the files.
+-- How a part may go that leaves the files.
 abbrev pub Runs : (Due → Type 0) → SourceSide → SourceSide → SinkSide → SinkSide → End → Type 0
 Runs outcome input input' out out' end = (files : FilesSide) → Serves NoFile outcome files files input input' out out' end
 
--- How one may that stores, and leaves the input and out.
+-- How a part may go that may store, and leaves the input and out.
 abbrev pub Works : (Due → Type 0) → FilesSide → FilesSide → End → Type 0
 Works outcome files files' end = (input : SourceSide) (out : SinkSide) → Serves NoFile outcome files files' input input out out end
