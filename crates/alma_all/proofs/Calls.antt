@@ -25,7 +25,7 @@ use Rattle.alma_resolved.proofs.Routines.{program_keeps_limits, program_keeps_sl
 use Rattle.alma_resolved.proofs.Standing.{numbered_stands}
 use Rattle.alma_resolved.proofs.TreeNames.{tree_named}
 use Rattle.alma_rules.specs.View.{view_module}
-use Rattle.alma_source.proofs.RefusalLemmas.{one_refusal}
+use Rattle.alma_source.proofs.RefusalLemmas.{only_fault}
 use Rattle.alma_source.specs.Refusal.{IsProgramOf}
 use Rattle.alma_source.specs.Verdict.{Verdict}
 use Rattle.alma_all.specs.All.{program, all_plan, all_sense, file_plan, body_returns, list_plan, unless_returns}
@@ -90,7 +90,7 @@ module _ (file source input : List ℕ) (steps : ℕ) (before after : Outside) (
     source_ends : SourceComes program success before.files.told before.input.left reading due file source (λ p. list_plan p steps)
         → ListEnds file source input steps before after status
     source_ends (inl (fault, offset, is, is_due)) =
-        refuses fault offset is (λ other at h. one_refusal source fault other offset at is h) (shows_it _ is_due)
+        refuses fault offset (only_fault source fault offset is) (shows_it _ is_due)
     source_ends (inr (p, is, come)) = body_ends p is (body_returns p) refl come
 
 pub call_lists : (words : List (List ℕ)) (file source input : List ℕ) (steps : ℕ) (before after : Outside) (status : ℕ)

@@ -18,7 +18,7 @@ use Rattle.alma_plan.specs.Meant.{meant_ending}
 use Rattle.alma_plan.specs.Programs.{Runs, refuse_source, too_much_code}
 use Rattle.alma_plan.specs.Undisturbed.{ShowsDue}
 use Rattle.alma_run_laws.specs.Shown.{size_of}
-use Rattle.alma_source.specs.Refusal.{IsProgramOf, IsRefused, place_of}
+use Rattle.alma_source.specs.Refusal.{IsProgramOf, IsOnlyFault, place_of}
 use Rattle.alma_source.specs.declared.fault.SourceFault.{SourceFault}
 use Rattle.alma_all.specs.All.{program, all_sense, body_returns, module_return}
 
@@ -77,8 +77,7 @@ pub record ListsSource (words : List (List ℕ)) (before : Outside) (file source
 -- What such a call shows, where nothing fails.
 pub data ListEnds (file source input : List ℕ) (steps : ℕ) (before after : Outside) (status : ℕ) : Type 0 where
   -- the source has this fault at this place, and no other: it is refused for that
-  refuses : (fault : SourceFault) (offset : ℕ) → IsRefused source fault offset
-      → ((other : SourceFault) (place : ℕ) → IsRefused source other place → (fault ≡ other) × (offset ≡ place))
+  refuses : (fault : SourceFault) (offset : ℕ) → IsOnlyFault source fault offset
       → ShowsDue before after status (silent (refuse_source file fault (place_of source offset)))
       → ListEnds file source input steps before after status
   -- a RETURN stands in the body of the program's module

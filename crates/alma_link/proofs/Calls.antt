@@ -15,7 +15,7 @@ use Rattle.alma_plan.proofs.UndisturbedLemmas.{call_shows_due}
 use Rattle.alma_plan.proofs.ToldLemmas.{IsLargeOr, RunComes, SourceComes, StoreComes, run_asks, run_comes, source_asks, source_comes}
 use Rattle.alma_plan.proofs.ToldLemmas.{store_asks, store_comes}
 use Rattle.alma_run_laws.proofs.Spelled.{spells_code}
-use Rattle.alma_source.proofs.RefusalLemmas.{one_refusal}
+use Rattle.alma_source.proofs.RefusalLemmas.{only_fault}
 use Rattle.alma_source.specs.Refusal.{IsProgramOf, IsRefused, place_of}
 use Rattle.alma_source.specs.Verdict.{Verdict}
 use Rattle.alma_source.specs.declared.fault.SourceFault.{SourceFault}
@@ -137,8 +137,7 @@ module _ (task : Task) (Performs : Program → Type 0) (files sources : List (Li
     -- the files hold modules, or not
     files_end : FilesCome task before.files.told before.input.left reading due [] files sources → End
     files_end (first_refused file source fault offset first e) =
-        refuses file source fault offset first
-        (λ other place is. one_refusal source fault other offset place (first_is first) is)
+        refuses file source fault offset first (only_fault source fault offset (first_is first))
         (subst (ShowsDue before after status) e shows)
     files_end (all_modules units are c) = joined_ends units (join_fault units) are refl c
 

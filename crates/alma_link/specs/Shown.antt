@@ -12,7 +12,7 @@ use Rattle.alma_plan.specs.Programs.{refuse_source, storing, too_much_code}
 use Rattle.alma_plan.specs.Undisturbed.{ShowsDue}
 use Rattle.alma_run_laws.specs.Shown.{size_of}
 use Rattle.alma_run_laws.specs.Stored.{SpellsCodeOf}
-use Rattle.alma_source.specs.Refusal.{IsProgramOf, IsRefused, place_of}
+use Rattle.alma_source.specs.Refusal.{IsProgramOf, IsRefused, IsOnlyFault, place_of}
 use Rattle.alma_source.specs.declared.fault.SourceFault.{SourceFault}
 use Rattle.alma_driver_words.specs.Words.{default_steps}
 use Rattle.alma_link.specs.Link.{program, failure, join_refusal}
@@ -56,7 +56,7 @@ pub data IsFirstRefused (file source : List ℕ) (fault : SourceFault) (offset :
 pub data ModulesEnd (Performs : Program → Type 0) (files sources : List (List ℕ)) (before after : Outside) (status : ℕ) : Type 0 where
   -- the first file that holds no module has this fault at this place, and no other: it is refused for that
   refuses : (file source : List ℕ) (fault : SourceFault) (offset : ℕ) → IsFirstRefused file source fault offset files sources
-      → ((other : SourceFault) (place : ℕ) → IsRefused source other place → (fault ≡ other) × (offset ≡ place))
+      → IsOnlyFault source fault offset
       → ShowsDue before after status (silent (refuse_source file fault (place_of source offset)))
       → ModulesEnd Performs files sources before after status
   -- all hold modules, and these cannot be joined: the first fault is told

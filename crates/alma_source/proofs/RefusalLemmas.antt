@@ -31,7 +31,7 @@ use Rattle.alma_parse.specs.Refusals.{Refuses}
 use Rattle.alma_resolved.specs.Whole.{kinds_in}
 use Rattle.alma_source.specs.declared.fault.SourceFault.{SourceFault}
 use Rattle.alma_source.specs.declared.fault.SourceFault.TheVariants.{Lex, Syntax, Check}
-use Rattle.alma_source.specs.Refusal.{offset_of, IsParsed, IsProgramOf, SyntaxFaultAt, CheckFaultAt, IsRefused, IsOfGrammar}
+use Rattle.alma_source.specs.Refusal.{offset_of, IsParsed, IsProgramOf, SyntaxFaultAt, CheckFaultAt, IsRefused, IsOnlyFault, IsOfGrammar}
 
 -- ---- offsets of tokens
 
@@ -337,6 +337,13 @@ one_refusal source (Syntax fault) (Lex other) at place h i =
     absurd (never_both (length source) source h.tokens i.0 other place h.scanned i.1)
 one_refusal source (Syntax fault) (Syntax other) at place h i =
     let r = one_syntax_fault source fault other at place h i in (ap Syntax r.0, r.1)
+
+-- and for no other
+pub only_fault : (source : List ℕ) (fault : SourceFault) (offset : ℕ) → IsRefused source fault offset → IsOnlyFault source fault offset
+only_fault source fault offset refused = record {
+  refused = refused;
+  only = λ other place is. one_refusal source fault other offset place refused is;
+}
 
 -- ---- a program is not refused
 

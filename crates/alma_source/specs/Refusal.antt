@@ -62,6 +62,11 @@ IsRefused source (Lex fault) offset = FaultAt source fault offset
 IsRefused source (Syntax fault) offset = SyntaxFaultAt source fault offset
 IsRefused source (Check fault) offset = CheckFaultAt source fault offset
 
+-- the source is refused for this fault at this offset, and for no other
+pub record IsOnlyFault (source : List ℕ) (fault : SourceFault) (offset : ℕ) : Type 0 where
+  pub refused : IsRefused source fault offset
+  pub only : (other : SourceFault) (place : ℕ) → IsRefused source other place → (fault ≡ other) × (offset ≡ place)
+
 -- a fault of tokens or of syntax
 abbrev pub IsOfGrammar : SourceFault → Type 0
 IsOfGrammar (Lex fault) = Unit {0}
