@@ -1,6 +1,6 @@
 -- The headline: a run of a source shows what its program means.
-use Rattle.std.proofs.Common.{◌≡◌, ◌≤◌, ◌+◌, ◌*◌, ◌∙◌, ◌++◌, ℕ, suc, List, [], length, refl, ap, sym, subst, arith}
-use Rattle.std.specs.Prelude.{Bool, true, Option, Some}
+use Rattle.std.proofs.Common.{◌≡◌, ◌≤◌, ◌+◌, ◌*◌, ◌∙◌, ℕ, suc, List, [], length, ap, sym, subst, arith}
+use Rattle.std.specs.Prelude.{Bool, true, Option, None, Some}
 use Rattle.alma_base.specs.Limits.{source_limit, size_limit, input_limit}
 use Rattle.alma_io.specs.Files.{Told, Has, MayHave, MayPass}
 use Rattle.alma_io.specs.Whole.{MayHaveMore}
@@ -19,27 +19,25 @@ use Rattle.alma_driver_words.specs.Words.{Request, Run, file_of}
 use Rattle.alma_driver_words.proofs.WordLemmas.{one_request}
 use Rattle.alma_driver_outcome.specs.Words.{read_by}
 use Rattle.alma_driver_outcome.specs.Showing.{Prints}
-use Rattle.alma_io.specs.Outside.{Outside, IsUndisturbed, MayBeLeft, Gains}
+use Rattle.alma_io.specs.Outside.{Outside, IsUndisturbed, MayBeLeft, StoredFile}
 use Rattle.alma_plan.specs.Causes.{IsWhole}
 use Rattle.alma_plan.specs.Course.{Takes}
 use Rattle.alma_plan.specs.Plan.{Reading}
-use Rattle.alma_plan.specs.Plan as plan
+use Rattle.alma_plan.specs.Undisturbed.{ShowsDue}
 use Rattle.alma_plan.proofs.UndisturbedLemmas.{call_is_whole}
-use Rattle.alma_driver_outcome.specs.Ends.{program, status_of, text_of, counts_text}
-use Rattle.alma_source.specs.Refusal.{IsProgramOf, place_of}
+use Rattle.alma_driver_outcome.specs.Ends.{ending_in, program}
+use Rattle.alma_source.specs.Refusal.{IsProgramOf}
 use Rattle.alma_driver_outcome.specs.Outcome.{Due, silent, code_due, InputOutcome, unread, taken, past_input, ProgramOutcome}
 use Rattle.alma_driver_outcome.specs.Outcome.{ran, too_much_code, told_end, MeansOn, IsSourceEnd, refused, SourceOutcome, stopped}
 use Rattle.alma_driver_outcome.specs.Outcome.{compiled, RequestOutcome, absent, past_limit, fetched, unfetched, Outcome, bad_word, asks}
 use Rattle.alma_driver_outcome.specs.Outcome.{Lacks}
-use Rattle.alma_driver_outcome.specs.Parts.{MayCome}
+use Rattle.alma_driver_outcome.specs.Parts.{MayCome, shown_in}
 use Rattle.alma_driver_outcome.specs.Scope.{Causes, IsOutcome, scope_of}
-use Rattle.alma_driver_outcome.specs.Headline.{AsksToRun, ShowsResult, RunEnds, refuses, too_large, ended, ran_out}
-use Rattle.alma_driver_outcome.specs.Headline.{meant_status, meant_text}
-use Rattle.alma_driver_outcome.specs.declared.end.Counts.{Counts}
+use Rattle.alma_driver_outcome.specs.Headline.{AsksToRun, ShowsEnd, ShowsResult, RunEnds, refuses, too_large, ended, ran_out}
 use Rattle.alma_driver_outcome.specs.declared.end.End.{End}
-use Rattle.alma_driver_outcome.specs.declared.end.End.TheVariants.{Refused, StepsOut, TooMuchCode}
+use Rattle.alma_driver_outcome.specs.declared.end.End.TheVariants.{StepsOut}
 use Rattle.alma_driver_outcome.proofs.RunLemmas.{code_means}
-use Rattle.alma_source.proofs.RefusalLemmas.{one_refusal, one_program, refused_no_program}
+use Rattle.alma_source.proofs.RefusalLemmas.{only_fault, one_program, refused_no_program}
 use Rattle.alma_driver_outcome.proofs.Unread.{due_alike}
 
 -- ---- a run on an input that is told where it is read
@@ -63,83 +61,81 @@ run_means left input p code steps stats due told short implements (past_input re
 
 -- ---- what a call shows
 
--- the status of a call and what out and err gained, by what is due
-record IsShown (words : List (List ℕ)) (before after : Outside) (status : ℕ) (due : Due) : Type 0 where
-  status_is : status ≡ status_of due.end
-  out : Gains before.out after.out due.out
-  err : Gains before.err after.err (text_of (file_of words) due.end)
-
 -- all that is due came
 pub record CameWhole (words : List (List ℕ)) (before after : Outside) (status : ℕ) : Type 0 where
   pub due : Due
   pub outcome : Outcome words before.files.told before.input.left due
-  shown : IsShown words before after status due
+  pub shows : ShowsDue before after status (shown_in (file_of words) due)
   pub takes : Takes due.reading before.input after.input
 
--- the end that is told of an end of the meaning has the status of that, and its text where it is not cut off
-told_status : (end : events.End) (counts : Option Counts) → status_of (told_end end counts) ≡ meant_status end
-told_status events.Succeeded counts = refl
-told_status events.Failed counts = refl
-told_status (events.Faulted fault line) counts = refl
-told_status CutOff counts = refl
-
-told_text : (file : List ℕ) (end : events.End) (counts : Option Counts) → (end ≡ CutOff → ⊥)
-    → text_of file (told_end end counts) ≡ counts_text counts ++ meant_text end
-told_text file events.Succeeded counts uncut = refl
-told_text file events.Failed counts uncut = refl
-told_text file (events.Faulted fault line) counts uncut = refl
-told_text file CutOff counts uncut = absurd (uncut refl)
+-- a run stores nothing
+unstored : (left : Option (List ℕ)) (p : Program) (steps : ℕ) (stats : Bool) (due : Due) → ProgramOutcome left p steps (Prints stats) due
+    → due.stored ≡ None
+unstored left p steps stats due (ran code size is o) = by o
+  where
+    by : InputOutcome left code steps (Prints stats) due → due.stored ≡ None
+    by (unread quiet e) = ap (λ (d : Due). d.stored) e
+    by (taken input reads l s e) = ap (λ (d : Due). d.stored) e
+    by (past_input reads more e) = ap (λ (d : Due). d.stored) e
+unstored left p steps stats due (too_much_code size e) = ap (λ (d : Due). d.stored) e
 
 module _ (words : List (List ℕ)) (source input : List ℕ) (steps : ℕ) (stats : Bool) (before after : Outside) (status : ℕ) where
+  -- what is due by its end and its bytes, where nothing is stored
+  shows_end : (due : Due) (end : End) → due.end ≡ end → due.stored ≡ None → ShowsDue before after status (shown_in (file_of words) due)
+      → ShowsEnd words before after status end due.out
+  shows_end due end e none h =
+      let file = file_of words in
+      subst (ShowsDue before after status)
+      (ap (λ (x : End). record { end = ending_in file x; out = due.out; stored = due.stored }) e
+      ∙ ap (λ (x : Option StoredFile). record { end = ending_in file end; out = due.out; stored = x }) none) h
+
   -- a program that was run
-  ends_meant : (p : Program) (due : Due) → IsProgramOf source p → size_of p ≤ size_limit → IsShown words before after status due
+  ends_meant : (p : Program) (due : Due) → IsProgramOf source p → size_of p ≤ size_limit → due.stored ≡ None
+      → ShowsDue before after status (shown_in (file_of words) due)
       → MeansOn p input steps stats due → RunEnds words source input steps stats before after status
-  ends_meant p due is size h m = by m.shows
+  ends_meant p due is size none h m = by m.shows
     where
       by : run_laws.Shows p input steps due.out m.end → RunEnds words source input steps stats before after status
       by (whole uncut r) =
-          let text = ap (text_of (file_of words)) m.ends ∙ told_text (file_of words) m.end m.counts uncut in
-          let all : ShowsResult stats (due.out, m.end) before after status = record {
+          let all : ShowsResult words stats (due.out, m.end) before after status = record {
             uncut = uncut;
-            status_is = h.status_is ∙ ap status_of m.ends ∙ told_status m.end m.counts;
             counts = m.counts;
             counted = m.counted;
-            shows = (h.out, subst (Gains before.err after.err) text h.err);
+            shows = shows_end due (told_end m.end m.counts) m.ends none h;
           } in
-          ended p is size (subst (λ (x : List ℕ × events.End). ShowsResult stats x before after status) (sym r) all)
+          ended p is size (subst (λ (x : List ℕ × events.End). ShowsResult words stats x before after status) (sym r) all)
       by (front cut covers few) =
           let out : due.end ≡ StepsOut m.counts = m.ends ∙ ap (λ (e : events.End). told_end e m.counts) cut in
           ran_out p is size (record {
-            status_is = h.status_is ∙ ap status_of out;
             printed = due.out;
             covers = covers;
             few = few;
             counts = m.counts;
             counted = m.counted;
-            shows = (h.out, subst (λ (x : End). Gains before.err after.err (text_of (file_of words) x)) out h.err);
+            shows = shows_end due (StepsOut m.counts) out none h;
           })
 
   -- a program that was run on an input that is told where it is read, or is too large
   ends_program : (p : Program) (due : Due) → (program_reads p ≡ true → before.input.left ≡ Some input) → length input ≤ input_limit
-      → IsProgramOf source p → IsShown words before after status due → ProgramOutcome before.input.left p steps (Prints stats) due
+      → IsProgramOf source p → ShowsDue before after status (shown_in (file_of words) due)
+      → ProgramOutcome before.input.left p steps (Prints stats) due
       → RunEnds words source input steps stats before after status
   ends_program p due told short is h (ran code size is_code o) =
-      ends_meant p due is size h
+      ends_meant p due is size (unstored before.input.left p steps stats due (ran code size is_code o)) h
       (run_means before.input.left input p code steps stats due (λ r. told (sym is_code.reads ∙ r)) short is_code.implements o)
   ends_program p due told short is h (too_much_code size e) =
-      let s : IsShown words before after status (silent (TooMuchCode (size_of p))) = subst (IsShown words before after status) e h in
-      too_large p is size s.status_is (s.out, s.err)
+      too_large p is size (subst (λ (d : Due). ShowsDue before after status (shown_in (file_of words) d)) e h)
 
   -- a source that is refused
-  ends_refused : (due : Due) (end : End) → due ≡ silent end → IsShown words before after status due → IsSourceEnd source end
+  ends_refused : (due : Due) (end : End) → due ≡ silent end → ShowsDue before after status (shown_in (file_of words) due)
+      → IsSourceEnd source end
       → RunEnds words source input steps stats before after status
   ends_refused due end d h (refused fault offset r e) =
-      let s : IsShown words before after status (silent (Refused fault (place_of source offset))) =
-      subst (IsShown words before after status) (d ∙ ap silent e) h in
-      refuses fault offset r (λ other place q. one_refusal source fault other offset place r q) s.status_is (s.out, s.err)
+      refuses fault offset (only_fault source fault offset r)
+      (subst (λ (d : Due). ShowsDue before after status (shown_in (file_of words) d)) (d ∙ ap silent e) h)
 
   -- what a source comes to
-  ends_of : (due : Due) → AsksToRun words before source input steps stats → IsShown words before after status due
+  ends_of : (due : Due) → AsksToRun words before source input steps stats → ShowsDue before after status (shown_in (file_of words) due)
       → SourceOutcome source (λ p. ProgramOutcome before.input.left p steps (Prints stats)) due
       → RunEnds words source input steps stats before after status
   ends_of due a h (stopped end r e) = ends_refused due end e h r
@@ -193,16 +189,10 @@ came : (words : List (List ℕ)) (before after : Outside) (status : ℕ)
     → IsWhole (MayCome (file_of words) (IsOutcome words before)) before after status
     → CameWhole words before after status
 came words before after status w =
-    let due = w.2.0 in
-    let shown = w.2.3 in
     record {
-      due = due;
+      due = w.2.0;
       outcome = w.2.1;
-      shown = record {
-        status_is = w.3 ∙ ap (λ (d : plan.Due). d.end.status) shown;
-        out = subst (λ (d : plan.Due). Gains before.out after.out d.out) shown w.4;
-        err = subst (λ (d : plan.Due). Gains before.err after.err d.end.text) shown w.5;
-      };
+      shows = subst (ShowsDue before after status) w.2.3 (record { status_is = w.3; out = w.4; err = w.5; files = w.6 });
       takes = subst (λ (r : Reading). Takes r before.input after.input) w.2.2 w.7;
     }
 
@@ -220,17 +210,17 @@ pub run_ends : (words : List (List ℕ)) (source input : List ℕ) (steps : ℕ)
     → RunEnds words source input steps stats before after status
 run_ends words source input steps stats before after status a c u =
     let w = whole_run words source input steps stats before after status a c u in
-    ends_of words source input steps stats before after status w.due a w.shown
+    ends_of words source input steps stats before after status w.due a w.shows
     (words_run words before source input steps stats w.due a w.outcome)
 
 -- ---- enough steps
 
 -- a result is shown for each level that is not cut off
-shows_level : (p : Program) (input : List ℕ) (steps level : ℕ) (stats : Bool) (before after : Outside) (status : ℕ)
+shows_level : (words : List (List ℕ)) (p : Program) (input : List ℕ) (steps level : ℕ) (stats : Bool) (before after : Outside) (status : ℕ)
     → (end_of (first (ev_program level p input)) ≡ CutOff → ⊥)
-    → ShowsResult stats (result (suc steps) p input) before after status → ShowsResult stats (result level p input) before after status
-shows_level p input steps level stats before after status uncut h =
-    subst (λ (m : List ℕ × events.End). ShowsResult stats m before after status) (same_result p input (suc steps) level h.uncut uncut) h
+    → ShowsResult words stats (result (suc steps) p input) before after status → ShowsResult words stats (result level p input) before after status
+shows_level words p input steps level stats before after status uncut h =
+    subst (λ (m : List ℕ × events.End). ShowsResult words stats m before after status) (same_result p input (suc steps) level h.uncut uncut) h
 
 -- where the steps are enough the result is shown
 pub enough_steps : (words : List (List ℕ)) (source input : List ℕ) (steps : ℕ) (stats : Bool) (before after : Outside) (status : ℕ)
@@ -238,16 +228,16 @@ pub enough_steps : (words : List (List ℕ)) (source input : List ℕ) (steps : 
     → AsksToRun words before source input steps stats → Causes words before after status → IsUndisturbed before after status
     → IsProgramOf source p
     → size_of p ≤ size_limit → (end_of (first (ev_program level p input)) ≡ CutOff → ⊥)
-    → 32 * (visit_count (first (ev_program level p input)) + 1) ≤ steps → ShowsResult stats (result level p input) before after status
+    → 32 * (visit_count (first (ev_program level p input)) + 1) ≤ steps → ShowsResult words stats (result level p input) before after status
 enough_steps words source input steps stats before after status p level a c u is size uncut many =
     by (run_ends words source input steps stats before after status a c u)
   where
-    by : RunEnds words source input steps stats before after status → ShowsResult stats (result level p input) before after status
-    by (refuses fault offset r only s shown) = absurd (refused_no_program source fault offset p r is)
-    by (too_large q isq big s shown) = absurd (omega (arith, size, big, ap size_of (one_program source q p isq is)))
+    by : RunEnds words source input steps stats before after status → ShowsResult words stats (result level p input) before after status
+    by (refuses fault offset only shown) = absurd (refused_no_program source fault offset p only.refused is)
+    by (too_large q isq big shown) = absurd (omega (arith, size, big, ap size_of (one_program source q p isq is)))
     by (ended q isq small_q h) =
-        shows_level p input steps level stats before after status uncut
-        (subst (λ (r : Program). ShowsResult stats (result (suc steps) r input) before after status) (one_program source q p isq is) h)
+        shows_level words p input steps level stats before after status uncut
+        (subst (λ (r : Program). ShowsResult words stats (result (suc steps) r input) before after status) (one_program source q p isq is) h)
     by (ran_out q isq small_q f) =
         let few = subst (λ (r : Program). MayRunOut r input steps) (one_program source q p isq is) f.few in
         absurd (omega (arith, few level uncut, many))

@@ -4,7 +4,6 @@ use Rattle.alma_lower.specs.declared.lowering.LowerError.{LowerError}
 use Rattle.alma_lower.specs.declared.lowering.LowerError.TheVariants as lower
 use Rattle.alma_code.specs.declared.step.End as code
 use Rattle.alma_code.specs.declared.step.End.TheVariants as ended
-use Rattle.alma_base.specs.declared.fault.RunFault.{RunFault}
 use Rattle.alma_code.specs.Machine.{Mode, Going, Failing, Ended, Stuck, State}
 use Rattle.alma_machine.specs.declared.machine.RunEnd.{RunEnd}
 use Rattle.alma_machine.specs.declared.machine.RunEnd.TheVariants as run
@@ -48,10 +47,6 @@ status_of (TooMuchCode size) = exit.too_much_code
 abbrev pub says : (text : List ℕ) → List ℕ
 says text = line_of program text
 
--- the text of a run that stopped in a fault
-abbrev pub fault_text : RunFault → (line : ℕ) → List ℕ
-fault_text fault line = says (fault_words fault line)
-
 -- the line that tells counts, by their texts
 abbrev pub counts_line : (steps choices fails : List ℕ) → List ℕ
 counts_line steps choices fails =
@@ -76,7 +71,7 @@ end_text file (Succeeded counts) = []
 end_text file (Failed counts) = []
 end_text file (BadWord k) = says (codes "bad word " ++ decimal k)
 end_text file (Refused fault place) = refusal_text file fault place
-end_text file (Faulted fault line counts) = fault_text fault line
+end_text file (Faulted fault line counts) = says (fault_words fault line)
 end_text file (StepsOut counts) = says (codes "steps out")
 end_text file ReadFault = says (codes "read fault")
 end_text file WriteFault = says (codes "write fault")

@@ -113,5 +113,5 @@ pub fn enough_steps_show_the_result()
         → IsProgramOf source p → size_of p ≤ size_limit
         → (end_of (first (ev_program level p input)) ≡ CutOff → ⊥)
         → visit_steps * (visit_count (first (ev_program level p input)) + 1) ≤ steps
-        → ShowsResult stats (meant_at level p input) before after status }
+        → ShowsResult words stats (meant_at level p input) before after status }
 {}

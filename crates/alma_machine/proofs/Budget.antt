@@ -15,7 +15,7 @@ use Rattle.alma_io.proofs.Known.{appends_trans}
 use Rattle.alma_io.proofs.PartLemmas.{front_after}
 use Rattle.alma_machine.specs.declared.machine.RunEnd.{RunEnd}
 use Rattle.alma_machine.specs.declared.machine.RunEnd.TheVariants as run
-use Rattle.alma_machine.specs.Runs.{OnWhole, ShowsLast, end_of, run_end_of, made, last_print}
+use Rattle.alma_machine.specs.Runs.{OnWhole, run_end_of, made, last_print}
 use Rattle.alma_machine_acts.specs.Steps.{IsLive, ModeAfter, PrintsOnly, step_result}
 use Rattle.alma_machine.specs.View.{MachineView, goes_on}
 
@@ -164,37 +164,10 @@ pub on_err : {T E : Type 0} (result : Result T E) (P : Type 0) → is_err result
 on_err (Ok done) P e h = absurd (cc)
 on_err (Err fault) P e h = h
 
--- the steps of a machine that only stopped are those that were made
-pub progress_stopped : (old new stopped : MachineView) (m : ℕ) → stopped.state ≡ new.state → stopped.code ≡ new.code
-    → stopped.input ≡ new.input → stopped.printed ≡ new.printed
-    → Progress old new m → Progress old stopped m
-progress_stopped old new stopped m state code input printed h = record {
-  state = state ∙ h.state;
-  steps = ap (λ s. s.steps) state ∙ h.steps;
-  code = code ∙ h.code;
-  input = input ∙ h.input;
-  shown = printed ∙ h.shown;
-}
-
 -- what a machine shows after the steps that were made, by their count
 pub shows : (old new : MachineView) (m : ℕ) → Progress old new m
     → new.printed ≡ last_print old.code old.input (made old new) old.state old.printed
 shows old new m h = h.shown ∙ ap (λ k. last_print old.code old.input k old.state old.printed) (sym (made_is old new m h))
-
--- so says each answer but want of memory
-pub shows_last : (result : RunEnd) (shown last : List ℕ) → (result ≡ run.Memory → ⊥) → shown ≡ last → ShowsLast result shown last
-shows_last run.Succeeded shown last h e = e
-shows_last run.Failed shown last h e = e
-shows_last (run.Fault fault) shown last h e = e
-shows_last run.StepsOut shown last h e = e
-shows_last run.WriteFault shown last h e = e
-shows_last run.Memory shown last h e = absurd (h refl)
-
--- an end is no want of memory
-pub end_is_whole : (e : End) → end_of e ≡ run.Memory → ⊥
-end_is_whole end.Succeeded h = cc h
-end_is_whole end.Failed h = cc h
-end_is_whole (end.Fault fault) h = cc h
 
 -- a step that is not the last goes on
 pub goes_unless : (a : Step) → ((e : End) → a ≡ answer.Done e → ⊥) → goes_on a ≡ true
@@ -212,6 +185,7 @@ pub record Finished (old new : MachineView) (m budget : ℕ) (e : End) : Type 0 
   pub state : new.state ≡ after old.code old.input budget old.state
   pub mode : (after old.code old.input budget old.state).mode ≡ Ended e
   pub printed : prints old.code old.input m old.state ≡ prints old.code old.input budget old.state
+  pub last : prints old.code old.input (m + 1) old.state ≡ prints old.code old.input budget old.state
 
 -- so it has where its last step said so
 pub finished : (old now new : MachineView) (m budget : ℕ) (a : Step) (e : End) → Progress old now m → Progress old new (m + 1)
@@ -223,10 +197,12 @@ finished old now new m budget a e h p done is mode quiet lt =
     let ended : (after old.code old.input (m + 1) old.state).mode ≡ Ended e = ap (λ s. s.mode) (sym p.state) ∙ end in
     let last = ended_after old.code old.input (m + 1) budget old.state e le ended in
     let none : new.printed ≡ [] = subst (λ b. PrintsOnly b new.printed) is quiet in
+    let all = sym (ended_prints old.code old.input (m + 1) budget old.state e le ended) in
     record {
       state = p.state ∙ sym last;
       mode = ap (λ s. s.mode) last ∙ ended;
       printed = sym
-          (ended_prints old.code old.input (m + 1) budget old.state e le ended ∙ prints_then old now new m a h done
+          (sym all ∙ prints_then old now new m a h done
           ∙ ap (λ bytes. prints old.code old.input m old.state ++ bytes) none ∙ append-nil (prints old.code old.input m old.state));
+      last = all;
     }

@@ -8,3 +8,4 @@ pub mod Forms
 pub mod Needing
 pub mod Quieting
 pub mod Stepping
+pub mod Withins

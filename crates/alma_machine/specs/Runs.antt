@@ -30,14 +30,14 @@ abbrev pub last_print : PlainCode → (input : List ℕ) → (steps : ℕ) → S
 last_print code input zero s shown = shown
 last_print code input (suc before) s shown = (step code input (after code input before s)).printed
 
--- a machine shows what the last step printed, and nothing where a step found no memory
+-- a machine shows what the last step printed, and nothing where its run was cut short
 abbrev pub ShowsLast : RunEnd → (shown last : List ℕ) → Type 0
 ShowsLast run.Memory shown last = shown ≡ []
 ShowsLast run.Succeeded shown last = shown ≡ last
 ShowsLast run.Failed shown last = shown ≡ last
 ShowsLast (run.Fault fault) shown last = shown ≡ last
 ShowsLast run.StepsOut shown last = shown ≡ last
-ShowsLast run.WriteFault shown last = shown ≡ last
+ShowsLast run.WriteFault shown last = shown ≡ []
 
 -- the answer is that the steps ran out
 abbrev pub is_steps_out : RunEnd → Bool

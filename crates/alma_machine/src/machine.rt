@@ -1,5 +1,5 @@
 // The machine.
-ghost use Rattle.std.specs.Prelude.{◌≡◌, ◌+◌, ◌^◌, ◌<◌, ◌≤◌, [], ◌∷◌, true, length, IfOk, OnOk, OnErr, IsTrue};
+ghost use Rattle.std.specs.Prelude.{◌≡◌, ◌+◌, ◌++◌, ◌^◌, ◌<◌, ◌≤◌, [], ◌∷◌, true, false, length, IfOk, OnOk, OnErr, IsTrue};
 ghost use Rattle.alma_base.specs.Limits.{input_limit};
 ghost use Rattle.alma_code.specs.Layout.{start_frame};
 ghost use Rattle.alma_code.specs.Plain.{head_at};
@@ -11,9 +11,10 @@ ghost use Rattle.alma_machine_acts.specs.Rows.{state_of};
 ghost use Rattle.alma_machine_acts.specs.Steps.{step_result, ModeAfter, PrintsOnly};
 ghost use Rattle.alma_machine.specs.View.{runs_after};
 ghost use Rattle.alma_machine.specs.Stands.{Stands};
+ghost use Rattle.alma_io.specs.Buffer.{Buffers};
 ghost use Rattle.alma_io.specs.Causes.{HasCause};
 ghost use Rattle.alma_io.specs.Fronts.{AppendsFront};
-ghost use Rattle.alma_io.specs.Outside.{Writes};
+ghost use Rattle.alma_machine.specs.Within.{RunsWithin};
 ghost use Rattle.alma_machine.specs.Runs.{ShowsLast, last_print, end_of, run_end_of, is_steps_out, all_written, made, OnWhole, OnStepsOut, OnWriteFault, OnMemory};
 ghost use Rattle.std.specs.Io.KnownBytes.{Appends};
 
@@ -21,7 +22,7 @@ use crate::dispatch::act;
 use crate::quick::dash;
 use alma_base::{NoMemory, RunFault};
 use alma_code::{End, Step};
-use alma_io::{Sink, WriteFault, write_all};
+use alma_io::{Failed, Sink, SinkBuffer};
 use alma_machine_acts::choices::pop;
 use alma_machine_acts::{CodeView, Mode, Registers};
 use alma_memory::{MachineMemory, Memory};
@@ -29,6 +30,9 @@ use alma_object::{ObjectView, RoutineView};
 use alma_verify::Verified;
 use std::alloc::Global;
 use std::marker::Model;
+
+/// What was printed is out after so many steps more.
+const FLUSH_STEPS: u64 = 4096;
 
 /// How a run with a budget ends.
 #[derive(Clone, Copy, Debug, PartialEq, Eq)]
@@ -134,15 +138,49 @@ pub fn advance<M: MachineMemory, V: CodeView>(
     }
 }
 
-// Writes what a step printed; the sink is called only where it printed.
-fn write_printed<K: Sink>(step: Step, printed: &[u8], out: &mut K) -> Result<(), WriteFault>
+// Hands what a step printed to the buffer, which is called only where it printed.
+fn write_printed<K: Sink>(
+    step: Step,
+    printed: &[u8],
+    buffer: &mut SinkBuffer,
+    out: &mut K,
+) -> Result<(), Failed>
     requires quiet { PrintsOnly step printed.now }
-    ensures { Writes (K.side out.old) (K.side out.new) printed.now result }
+    ensures { Buffers (K.side out.old) (K.side out.new) (buffer.old ++ printed.now) buffer.new
+        result }
 {
     match step {
-        Step::Printed => write_all(out, printed),
+        Step::Printed => buffer.write(printed, out),
         _ => Ok(()),
     }
+}
+
+// Hands over what a step printed, the last of so many, and empties the buffer where it is due.
+fn write_through<K: Sink>(
+    step: Step,
+    printed: &[u8],
+    made: u64,
+    buffer: &mut SinkBuffer,
+    out: &mut K,
+) -> Result<(), Failed>
+    requires quiet { PrintsOnly step printed.now }
+    ensures { Buffers (K.side out.old) (K.side out.new) (buffer.old ++ printed.now) buffer.new
+        result }
+{
+    write_printed(step, printed, buffer, out)?;
+    if made % FLUSH_STEPS > 0 {
+        return Ok(());
+    }
+    buffer.flush(out)
+}
+
+// How many steps come before the next one that empties the buffer, or is the last of the budget.
+fn until_flush(made: u64, budget: u64) -> u64
+    requires { made < budget }
+    ensures { made + result < budget }
+{
+    let left = FLUSH_STEPS - 1 - made % FLUSH_STEPS;
+    left.min(budget - made - 1)
 }
 
 // The machine goes on after a step that was not the last, and where memory was there.
@@ -376,8 +414,52 @@ impl<'b, 'i> Machine<'b, 'i> {
         self.registers.fails
     }
 
-    /// Steps until the run ends, and at most `budget` of them. Each print is written as it comes,
-    /// in one call.
+    // Ends a run that was cut short: the machine runs no more, and shows no print.
+    fn stop(&mut self)
+        ensures state { self.new.state ≡ self.old.state }
+        ensures stopped { (self.new.running ≡ false) × (self.new.printed ≡ []) }
+        ensures same { (self.new.code ≡ self.old.code) × (self.new.input ≡ self.old.input) }
+    {
+        self.running = false;
+        self.printed.clear();
+    }
+
+    // The run, through a buffer.
+    fn run_buffered<K: Sink>(
+        &mut self,
+        budget: u64,
+        buffer: &mut SinkBuffer,
+        out: &mut K,
+    ) -> RunEnd
+        requires running { IsTrue self.old.running }
+        requires few { self.old.state.steps + budget < 2 ^ 63 }
+        ensures far { RunsWithin self.old self.new budget result }
+        ensures out { Buffers (K.side out.old) (K.side out.new) (buffer.old ++ prints self.old.code
+            self.old.input (made self.old self.new) self.old.state) buffer.new
+            (all_written result) }
+    {
+        let mut made = 0;
+        while made < budget {
+            let quick = self.dash(until_flush(made, budget));
+            let Ok(step) = self.step() else {
+                return RunEnd::Memory;
+            };
+            if let Step::Done(end) = step {
+                return RunEnd::from(end);
+            }
+            made += quick + 1;
+            if write_through(step, self.printed(), made, buffer, out).is_err() {
+                self.stop();
+                return RunEnd::WriteFault;
+            }
+        }
+        // Opens the machine: its invariant says where it stands while it is running.
+        let _ = &self.running;
+        RunEnd::StepsOut
+    }
+
+    /// Steps until the run ends, and at most `budget` of them. Prints wait for others, 4,096 steps
+    /// at most, and go out together.
     pub fn run<K: Sink>(&mut self, budget: u64, out: &mut K) -> RunEnd
         requires running { IsTrue self.old.running }
         requires few { self.old.state.steps + budget < 2 ^ 63 }
@@ -410,26 +492,15 @@ impl<'b, 'i> Machine<'b, 'i> {
         ensures running { self.new.running ≡ is_steps_out result }
         ensures same { (self.new.code ≡ self.old.code) × (self.new.input ≡ self.old.input) }
     {
-        let mut made = 0;
-        while made < budget {
-            let quick = self.dash(budget - made);
-            made += quick;
-            if made < budget {
-                let Ok(step) = self.step() else {
-                    return RunEnd::Memory;
-                };
-                if let Step::Done(end) = step {
-                    return RunEnd::from(end);
-                }
-                if write_printed(step, self.printed(), out).is_err() {
-                    self.running = false;
-                    return RunEnd::WriteFault;
-                }
-                made += 1;
-            }
+        let mut buffer = SinkBuffer::new();
+        let end = self.run_buffered(budget, &mut buffer, out);
+        if let RunEnd::WriteFault = end {
+            return end;
         }
-        // Opens the machine: its invariant says where it stands while it is running.
-        let _ = &self.running;
-        RunEnd::StepsOut
+        if buffer.flush(out).is_err() {
+            self.stop();
+            return RunEnd::WriteFault;
+        }
+        end
     }
 }

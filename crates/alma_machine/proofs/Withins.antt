@@ -1,0 +1,192 @@
+-- How far a run came, and what its sink and its buffer hold then.
+use Rattle.std.proofs.Common.{◌≡◌, ◌≤◌, ◌<◌, ◌+◌, ◌-◌, ℕ, List, [], ◌++◌, refl, sym, ap, ◌∙◌, subst, arith}
+use Rattle.std.specs.Prelude.{true, false, Ok}
+use Rattle.std.specs.Io.KnownBytes.{Appends}
+use Rattle.alma_code.specs.declared.step.End.{End}
+use Rattle.alma_code.specs.declared.step.End.TheVariants as end
+use Rattle.alma_code.specs.Machine.{State, after, prints}
+use Rattle.alma_io.specs.Buffer.{GainsBut, Buffers}
+use Rattle.alma_io.specs.Causes.{HasCause}
+use Rattle.alma_io.specs.Fronts.{AppendsFront}
+use Rattle.alma_io.specs.Outside.{Gains, FailsWithin}
+use Rattle.alma_io.specs.Sides.{SinkSide}
+use Rattle.alma_machine.specs.declared.machine.RunEnd.{RunEnd}
+use Rattle.alma_machine.specs.declared.machine.RunEnd.TheVariants as run
+use Rattle.alma_machine.specs.Runs.{OnWhole, OnWriteFault, OnMemory, all_written, end_of, last_print, made, run_end_of}
+use Rattle.alma_machine.specs.View.{MachineView}
+use Rattle.alma_machine.specs.Within.{RunsWithin}
+use Rattle.alma_machine.proofs.Budget.{Progress, Finished, made_is, shows}
+
+-- ---- how far it came
+
+-- a machine is where it is after so many steps, whatever it shows
+pub record Reached (old new : MachineView) (m : ℕ) : Type 0 where
+  pub state : new.state ≡ after old.code old.input (made old new) old.state
+  pub count : made old new ≡ m
+  pub steps : new.state.steps ≡ old.state.steps + m
+  pub same : (new.code ≡ old.code) × (new.input ≡ old.input)
+
+-- by its progress
+pub reached : (old new : MachineView) (m : ℕ) → Progress old new m → Reached old new m
+reached old new m h = record {
+  state = h.state ∙ ap (λ k. after old.code old.input k old.state) (sym (made_is old new m h));
+  count = made_is old new m h;
+  steps = h.steps;
+  same = (h.code, h.input);
+}
+
+-- the same steps were made where the state stays
+made_still : (old now new : MachineView) → new.state ≡ now.state → made old new ≡ made old now
+made_still old now new stays = ap (λ (s : State). s.steps - old.state.steps) stays
+
+-- and it is there still
+pub reached_still : (old now new : MachineView) (m : ℕ) → Reached old now m → new.state ≡ now.state
+    → (new.code ≡ now.code) × (new.input ≡ now.input) → Reached old new m
+reached_still old now new m h stays same = record {
+  state = stays ∙ h.state ∙ ap (λ k. after old.code old.input k old.state) (sym (made_still old now new stays));
+  count = made_still old now new stays ∙ h.count;
+  steps = ap (λ (s : State). s.steps) stays ∙ h.steps;
+  same = (same.0 ∙ h.same.0, same.1 ∙ h.same.1);
+}
+
+-- memory was wanted
+pub starves : (old new : MachineView) (m budget : ℕ) → Reached old new m → m ≤ budget → new.running ≡ false → new.printed ≡ []
+    → RunsWithin old new budget run.Memory
+starves old new m budget h le ends shown = record {
+  answer = tt;
+  state = tt;
+  prints = tt;
+  few = omega (arith, h.steps, le);
+  made = h.state;
+  steps_out = tt;
+  printed = shown;
+  running = ends;
+  same = h.same;
+}
+
+-- the sink failed
+pub fails_at : (old new : MachineView) (m budget : ℕ) → Reached old new m → m ≤ budget → new.running ≡ false → new.printed ≡ []
+    → RunsWithin old new budget run.WriteFault
+fails_at old new m budget h le ends shown = record {
+  answer = tt;
+  state = tt;
+  prints = tt;
+  few = omega (arith, h.steps, le);
+  made = h.state;
+  steps_out = tt;
+  printed = shown;
+  running = ends;
+  same = h.same;
+}
+
+-- the sink failed behind the run
+pub fails_behind : (old now new : MachineView) (budget : ℕ) (result : RunEnd) → RunsWithin old now budget result → new.state ≡ now.state
+    → (new.running ≡ false) × (new.printed ≡ []) → (new.code ≡ now.code) × (new.input ≡ now.input)
+    → RunsWithin old new budget run.WriteFault
+fails_behind old now new budget result h stays stopped same = record {
+  answer = tt;
+  state = tt;
+  prints = tt;
+  few = omega (arith, ap (λ (s : State). s.steps) stays, h.few);
+  made = stays ∙ h.made ∙ ap (λ k. after old.code old.input k old.state) (sym (made_still old now new stays));
+  steps_out = tt;
+  printed = stopped.1;
+  running = stopped.0;
+  same = (same.0 ∙ h.same.0, same.1 ∙ h.same.1);
+}
+
+-- what holds at each end of the run
+at_end : (old new : MachineView) (budget : ℕ) (e : End) → end_of e ≡ run_end_of (after old.code old.input budget old.state).mode
+    → new.state ≡ after old.code old.input budget old.state
+    → prints old.code old.input (made old new) old.state ≡ prints old.code old.input budget old.state
+    → new.state.steps ≤ old.state.steps + budget
+    → new.printed ≡ last_print old.code old.input (made old new) old.state old.printed
+    → new.running ≡ false → ((m : ℕ) × Reached old new m) → RunsWithin old new budget (end_of e)
+at_end old new budget end.Succeeded answer state prints few shown ends h = record {
+  answer = answer; state = state; prints = prints; few = few; made = h.1.state; steps_out = tt; printed = shown; running = ends; same = h.1.same;
+}
+at_end old new budget end.Failed answer state prints few shown ends h = record {
+  answer = answer; state = state; prints = prints; few = few; made = h.1.state; steps_out = tt; printed = shown; running = ends; same = h.1.same;
+}
+at_end old new budget (end.Fault fault) answer state prints few shown ends h = record {
+  answer = answer; state = state; prints = prints; few = few; made = h.1.state; steps_out = tt; printed = shown; running = ends; same = h.1.same;
+}
+
+-- the run ended with the step behind the first m
+pub ends_at : (old new : MachineView) (m budget : ℕ) (e : End) → Progress old new (m + 1) → Finished old new m budget e → m < budget
+    → new.running ≡ false → RunsWithin old new budget (end_of e)
+ends_at old new m budget e h f lt ends =
+    let r = reached old new (m + 1) h in
+    at_end old new budget e (sym (ap run_end_of f.mode)) f.state (ap (λ k. prints old.code old.input k old.state) r.count ∙ f.last)
+    (omega (arith, h.steps, lt)) (shows old new (m + 1) h) ends (m + 1, r)
+
+-- the steps ran out
+pub runs_out : (old new : MachineView) (budget : ℕ) → Progress old new budget → new.running ≡ true
+    → run_end_of new.state.mode ≡ run.StepsOut → RunsWithin old new budget run.StepsOut
+runs_out old new budget h goes live =
+    let r = reached old new budget h in
+    record {
+      answer = sym (ap (λ (s : State). run_end_of s.mode) (sym h.state) ∙ live);
+      state = h.state;
+      prints = ap (λ k. prints old.code old.input k old.state) r.count;
+      few = omega (arith, h.steps);
+      made = r.state;
+      steps_out = r.count;
+      printed = shows old new budget h;
+      running = goes;
+      same = r.same;
+    }
+
+-- ---- what the sink and the buffer hold
+
+-- at an end of the run
+pub gained_end : (e : End) (a b : SinkSide) (bytes held : List ℕ) → GainsBut a b bytes held → Buffers a b bytes held (all_written (end_of e))
+gained_end end.Succeeded a b bytes held h = h
+gained_end end.Failed a b bytes held h = h
+gained_end (end.Fault fault) a b bytes held h = h
+
+-- where the sink did not fail
+pub gained_at : (result : RunEnd) (a b : SinkSide) (bytes held : List ℕ) → (result ≡ run.WriteFault → ⊥)
+    → Buffers a b bytes held (all_written result) → GainsBut a b bytes held
+gained_at run.Succeeded a b bytes held whole h = h
+gained_at run.Failed a b bytes held whole h = h
+gained_at (run.Fault fault) a b bytes held whole h = h
+gained_at run.StepsOut a b bytes held whole h = h
+gained_at run.Memory a b bytes held whole h = h
+gained_at run.WriteFault a b bytes held whole h = absurd (whole refl)
+
+-- what the sink gained of the prints, with this answer: of those that were made, and of all
+pub record RunWrites (a b : SinkSide) (printed all : List ℕ) (result : RunEnd) : Type 0 where
+  pub out : OnWhole result (Appends a.written b.written all)
+  pub memory : OnMemory result (Appends a.written b.written printed)
+  pub write_fault : OnWriteFault result (AppendsFront a.written b.written printed)
+  pub cause : HasCause a.faults b.faults (all_written result)
+
+-- it failed within them
+pub writes_fail : (a b : SinkSide) (printed all : List ℕ) → FailsWithin a b printed → RunWrites a b printed all run.WriteFault
+writes_fail a b printed all h = record {
+  out = tt;
+  memory = tt;
+  write_fault = h.front;
+  cause = record { later = h.risen.0; ok = tt; err = h.risen.1 };
+}
+
+-- a count that stays has no cause
+no_cause : (a b : ℕ) → b ≡ a → HasCause {T = Unit {0}} {E = Unit {0}} a b (Ok tt)
+no_cause a b e = record { later = omega (arith, e); ok = e; err = tt }
+
+-- it took them
+pub writes_all : (result : RunEnd) (a b : SinkSide) (printed all : List ℕ) → (result ≡ run.WriteFault → ⊥) → Gains a b printed
+    → OnWhole result (printed ≡ all) → RunWrites a b printed all result
+writes_all result a b printed all quiet h = by result quiet
+  where
+    to : printed ≡ all → Appends a.written b.written all
+    to e = subst (λ (bytes : List ℕ). Appends a.written b.written bytes) e h.bytes_are
+
+    by : (result : RunEnd) → (result ≡ run.WriteFault → ⊥) → OnWhole result (printed ≡ all) → RunWrites a b printed all result
+    by run.Succeeded quiet e = record { out = to e; memory = tt; write_fault = tt; cause = no_cause a.faults b.faults h.quiet }
+    by run.Failed quiet e = record { out = to e; memory = tt; write_fault = tt; cause = no_cause a.faults b.faults h.quiet }
+    by (run.Fault fault) quiet e = record { out = to e; memory = tt; write_fault = tt; cause = no_cause a.faults b.faults h.quiet }
+    by run.StepsOut quiet e = record { out = to e; memory = tt; write_fault = tt; cause = no_cause a.faults b.faults h.quiet }
+    by run.Memory quiet e = record { out = tt; memory = h.bytes_are; write_fault = tt; cause = no_cause a.faults b.faults h.quiet }
+    by run.WriteFault quiet e = absurd (quiet refl)
