@@ -19,7 +19,7 @@ use alma_driver_words::exit;
 use alma_io::{Files, Sink, Source};
 use alma_ir::Program;
 use alma_join::JoinError;
-use alma_plan::{Refusal, Stop, refuse, refuse_number, report, tell_file, tell_program};
+use alma_plan::{Refusal, Stop, refuse, report, tell_file, tell_number, tell_program};
 use itoa::Buffer;
 use std::alloc::Global;
 
@@ -78,7 +78,7 @@ fn tell_join<E: Sink>(err: &mut E, units: &[Program], error: JoinError) -> Statu
                 routine_name(units, unit, routine),
             )
         }
-        JoinError::TooLarge(unit) => refuse_number(
+        JoinError::TooLarge(unit) => tell_number(
             err,
             PROGRAM,
             exit::OWN_REFUSAL,
