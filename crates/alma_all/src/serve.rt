@@ -13,7 +13,7 @@ use crate::end::AllEnd;
 use alma_driver_words::{DEFAULT_STEPS, is_file_name, split_word, steps_option};
 use alma_io::{Files, Sink, Source};
 use alma_ir::Program;
-use alma_listing::{AllError, listing_program};
+use alma_listing::{ListingError, listing_program};
 use alma_plan::{FileStop, ProgramEnd, Stop, run_program};
 use alma_unit::read_unit;
 use std::alloc::Global;
@@ -36,8 +36,8 @@ fn list<I: Source, O: Sink>(
 {
     match listing_program(alloc, program) {
         Ok(lister) => AllEnd::Performed(run_program(alloc, &lister, input, steps, out)),
-        Err(AllError::ModuleReturn) => AllEnd::ModuleReturn,
-        Err(AllError::Memory) => AllEnd::Performed(ProgramEnd::Stopped(Stop::Memory)),
+        Err(ListingError::ModuleReturn) => AllEnd::ModuleReturn,
+        Err(ListingError::Memory) => AllEnd::Performed(ProgramEnd::Stopped(Stop::Memory)),
     }
 }
 
