@@ -9,7 +9,7 @@ ghost use Rattle.alma_listing.specs.Lister as spec;
 ghost use Rattle.alma_listing.specs.Lister.{listing_of};
 ghost use Rattle.alma_listing.specs.Listing.{Lists, CostsFew};
 
-use crate::procedure::lister;
+use crate::procedure::list_procedure;
 use crate::returns::has_return;
 use alma_base::NoMemory;
 use alma_copy::{Moves, copy_global, copy_routine};
@@ -108,7 +108,7 @@ fn copy_routines(
     for routine in rest {
         copies.push(copy_routine(alloc, routine, &same_numbers())?)?;
     }
-    copies.push(lister(alloc, globals, body.line)?)?;
+    copies.push(list_procedure(alloc, globals, body.line)?)?;
     Ok(copies)
 }
 
