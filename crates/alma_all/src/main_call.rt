@@ -8,7 +8,7 @@ ghost use Rattle.alma_all.specs.Ends.{all_end};
 
 use crate::end::AllEnd;
 use crate::serve::perform;
-use crate::words::file_word;
+use crate::words::first_word;
 use alma_base::Status;
 use alma_driver_words::exit;
 use alma_io::{Files, Sink, Source};
@@ -59,5 +59,5 @@ pub fn all<F: Files, I: Source, O: Sink, E: Sink>(
         result.0 }
 {
     let end = perform(alloc, words, files, input, out);
-    tell(err, file_word(words), end)
+    tell(err, first_word(words), end)
 }
