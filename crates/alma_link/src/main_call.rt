@@ -47,6 +47,7 @@ fn tell_import<'t, E: Sink>(err: &mut E, fault: &'t [u8], unit: u32, name: &'t [
         (E.side err.old) (E.side err.new) result.0 }
 {
     let mut digits = Buffer::new();
+    // `PROGRAM`, with what stands behind it in a line on err.
     let front = b"alma_link: ".as_slice();
     let number = digits.format(unit).as_bytes();
     let blank = b" ".as_slice();
