@@ -50,12 +50,12 @@ fn tell_import<'t, E: Sink>(err: &mut E, fault: &'t [u8], unit: u32, name: &'t [
     // `PROGRAM`, with what stands behind it in a line on err.
     let front = b"alma_link: ".as_slice();
     let number = digits.format(unit).as_bytes();
-    let blank = b" ".as_slice();
+    let space = b" ".as_slice();
     let end = b"\n".as_slice();
     report(
         err,
         exit::OWN_REFUSAL,
-        &[front, fault, number, blank, name, end],
+        &[front, fault, number, space, name, end],
     )
 }
 

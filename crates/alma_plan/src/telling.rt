@@ -87,12 +87,12 @@ fn tell_refusal_named<'t, E: Sink>(
     let line = line_digits.format(place.line).as_bytes();
     let column = column_digits.format(place.column).as_bytes();
     let colon = b":".as_slice();
-    let blank = b": ".as_slice();
+    let middle = b": ".as_slice();
     let end = b"\n".as_slice();
     report(
         err,
         exit::REFUSED,
-        &[file, colon, line, colon, column, blank, name, end],
+        &[file, colon, line, colon, column, middle, name, end],
     )
 }
 
