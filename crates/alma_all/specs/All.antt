@@ -22,23 +22,23 @@ all_sense = sense program success
 -- ---- the words
 
 -- the text behind a front that it begins with
-abbrev pub behind : (front text : List ℕ) → Option (List ℕ)
-behind [] text = Some text
-behind (x ∷ front) [] = None
-behind (x ∷ front) (y ∷ text) = cond (eqb x y) (behind front text) None
+abbrev pub strip_prefix : (front text : List ℕ) → Option (List ℕ)
+strip_prefix [] text = Some text
+strip_prefix (x ∷ front) [] = None
+strip_prefix (x ∷ front) (y ∷ text) = cond (eqb x y) (strip_prefix front text) None
 
 -- digits name a number of steps from 1 on
 abbrev pub names_steps : List ℕ → Bool
 names_steps text = is_numeral steps_digits greatest_steps text
 
 -- the number of steps that a text names, where there is one
-abbrev pub steps_named : Option (List ℕ) → Option ℕ
-steps_named None = None
-steps_named (Some text) = cond (names_steps text) (Some (value_of text)) None
+abbrev pub steps_of_digits : Option (List ℕ) → Option ℕ
+steps_of_digits None = None
+steps_of_digits (Some text) = cond (names_steps text) (Some (value_of text)) None
 
 -- the number of steps that an option names
 abbrev pub steps_in : (word : List ℕ) → Option ℕ
-steps_in word = steps_named (behind (codes "--steps=") word)
+steps_in word = steps_of_digits (strip_prefix (codes "--steps=") word)
 
 -- ---- the plan
 

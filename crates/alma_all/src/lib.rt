@@ -7,5 +7,5 @@ mod main_call;
 mod serve;
 mod words;
 
-pub use alma_listing::{AllError, listing_program};
+pub use alma_listing::{ListingError, listing_program};
 pub use main_call::all;

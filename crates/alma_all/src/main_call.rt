@@ -8,11 +8,11 @@ ghost use Rattle.alma_all.specs.Ends.{all_end};
 
 use crate::end::AllEnd;
 use crate::serve::perform;
-use crate::words::file_word;
+use crate::words::first_word;
 use alma_base::Status;
 use alma_driver_words::exit;
 use alma_io::{Files, Sink, Source};
-use alma_plan::{Refusal, refuse, refuse_with, tell_file, tell_program};
+use alma_plan::{Refusal, refuse, tell_file, tell_line, tell_program};
 use std::alloc::Global;
 
 /// The name of the program.
@@ -25,7 +25,7 @@ fn tell<E: Sink>(err: &mut E, file: &str, end: AllEnd) -> Status
     match end {
         AllEnd::BadWord(word) => refuse(err, PROGRAM, Refusal::BadWord(word)),
         AllEnd::Unread(stop) => tell_file(err, PROGRAM, file.as_bytes(), stop),
-        AllEnd::ModuleReturn => { refuse_with(err, PROGRAM, exit::OWN_REFUSAL, b"ModuleReturn") }
+        AllEnd::ModuleReturn => { tell_line(err, PROGRAM, exit::OWN_REFUSAL, b"ModuleReturn") }
         AllEnd::Performed(end) => tell_program(err, PROGRAM, exit::SUCCEEDED, end),
     }
 }
@@ -59,5 +59,5 @@ pub fn all<F: Files, I: Source, O: Sink, E: Sink>(
         result.0 }
 {
     let end = perform(alloc, words, files, input, out);
-    tell(err, file_word(words), end)
+    tell(err, first_word(words), end)
 }

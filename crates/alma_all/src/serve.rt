@@ -7,13 +7,13 @@ ghost use Rattle.alma_plan.specs.Course.{Follows};
 ghost use Rattle.alma_driver_words.specs.Words.{greatest_steps, texts};
 ghost use Rattle.alma_resolved.specs.Room.{HasRoom};
 ghost use Rattle.alma_all.specs.All.{program as program_name, all_sense, all_plan, file_plan, list_plan, with_options};
-ghost use Rattle.alma_all.specs.Ends.{all_end, file_of};
+ghost use Rattle.alma_all.specs.Ends.{all_end, first_of};
 
 use crate::end::AllEnd;
 use alma_driver_words::{DEFAULT_STEPS, is_file_name, split_word, steps_option};
 use alma_io::{Files, Sink, Source};
 use alma_ir::Program;
-use alma_listing::{AllError, listing_program};
+use alma_listing::{ListingError, listing_program};
 use alma_plan::{FileStop, ProgramEnd, Stop, run_program};
 use alma_unit::read_unit;
 use std::alloc::Global;
@@ -36,8 +36,8 @@ fn list<I: Source, O: Sink>(
 {
     match listing_program(alloc, program) {
         Ok(lister) => AllEnd::Performed(run_program(alloc, &lister, input, steps, out)),
-        Err(AllError::ModuleReturn) => AllEnd::ModuleReturn,
-        Err(AllError::Memory) => AllEnd::Performed(ProgramEnd::Stopped(Stop::Memory)),
+        Err(ListingError::ModuleReturn) => AllEnd::ModuleReturn,
+        Err(ListingError::Memory) => AllEnd::Performed(ProgramEnd::Stopped(Stop::Memory)),
     }
 }
 
@@ -99,7 +99,7 @@ pub fn perform<F: Files, I: Source, O: Sink>(
 ) -> AllEnd
     ensures { Follows all_sense program_name (all_plan (texts words.now)) (F.side files.old)
         (F.side files.new) (I.side input.old) (I.side input.new) (O.side out.old)
-        (O.side out.new) (all_end (file_of (texts words.now)) result) }
+        (O.side out.new) (all_end (first_of (texts words.now)) result) }
 {
     let Some((file, options)) = split_word(words) else {
         return AllEnd::BadWord(1);

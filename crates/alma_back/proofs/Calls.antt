@@ -21,7 +21,7 @@ use Rattle.alma_run_laws.proofs.Meant.{code_shows}
 use Rattle.alma_run_laws.proofs.VariableLemmas.{values_meant, variables_shown}
 use Rattle.alma_run_laws.specs.Variables.{variable_word}
 use Rattle.alma_verify.specs.Bytes.{object_code}
-use Rattle.alma_back.specs.Due.{fetch_plan, back_plan, verify_plan, unless_bad_line, program, script_limit, walk_plan, walk_on_plan}
+use Rattle.alma_back.specs.Due.{fetch_plan, back_plan, walk_files_plan, unless_bad_line, program, script_limit, walk_plan, walk_on_plan}
 use Rattle.alma_back.specs.Script.{Line, Forward, Backward, Value, Output, lines_in}
 use Rattle.alma_back.specs.Session.{after_line, line_text, session, lines_text}
 use Rattle.alma_back.specs.Shown.{ShowsLine, ShowsLines, none, one_more, ShowsWalk, WalksProgram}
@@ -75,9 +75,9 @@ module _ (told : List ℕ → Told) where
   walked_asks None code lines name asks = on_asks (code_reads code) code lines name asks
   walked_asks (Some end) code lines name asks = asks
 
-  judged_asks : (r : Result (List Line) ℕ) (object name : List ℕ) → Asks plain told (unless_bad_line r object) name → ⊥
-  judged_asks (Ok lines) object name asks = walked_asks (object_refusal program object) (object_code object) lines name asks
-  judged_asks (Err line) object name asks = asks
+  walk_files_asks : (r : Result (List Line) ℕ) (object name : List ℕ) → Asks plain told (unless_bad_line r object) name → ⊥
+  walk_files_asks (Ok lines) object name asks = walked_asks (object_refusal program object) (object_code object) lines name asks
+  walk_files_asks (Err line) object name asks = asks
 
   -- both files that are asked for are there
   lacks_none : (object script bytes text : List ℕ) → told object ≡ Has bytes → told script ≡ Has text
@@ -87,7 +87,7 @@ module _ (told : List ℕ → Told) where
       by : Asks plain told (fetch_plan object script) lacks.0 → ⊥
       by (inl same) = cc (has, same, lacks.2)
       by (inr (got, may, within, inl same)) = cc (too, same, lacks.2)
-      by (inr (got, may, within, inr h)) = judged_asks (lines_in h.0) got lacks.0 h.3
+      by (inr (got, may, within, inr h)) = walk_files_asks (lines_in h.0) got lacks.0 h.3
 
 -- ---- what comes of the files and the input
 
@@ -102,9 +102,9 @@ module _ (told : List ℕ → Told) (left : Option (List ℕ)) (reading : Readin
         read_comes plain program told left reading due input (λ bytes. prints (session code bytes lines)) (has is) short c
     on_comes false quiet has h = h.1 ∙ ap prints (sym (shown_alike input (standing_at_start code []) lines quiet))
 
-    judged_comes : (bytes text : List ℕ) → lines_in text ≡ Ok lines → object_refusal program bytes ≡ None → object_code bytes ≡ code
-        → (code_reads code ≡ true → left ≡ Some input) → ComesOf (verify_plan bytes text) → due ≡ prints (session code input lines)
-    judged_comes bytes text good sound is has come =
+    walk_files_comes : (bytes text : List ℕ) → lines_in text ≡ Ok lines → object_refusal program bytes ≡ None → object_code bytes ≡ code
+        → (code_reads code ≡ true → left ≡ Some input) → ComesOf (walk_files_plan bytes text) → due ≡ prints (session code input lines)
+    walk_files_comes bytes text good sound is has come =
         let read = subst (λ (r : Result (List Line) ℕ). ComesOf (unless_bad_line r bytes)) good come in
         let opened = subst (λ (refusal : Option Ending). ComesOf (walk_plan refusal (object_code bytes) lines)) sound read in
         on_comes (code_reads code) refl has (subst (λ (c : PlainCode). ComesOf (walk_on_plan (code_reads c) c lines)) is opened)
@@ -122,12 +122,12 @@ walk_shows words p lines input before after status w causes calm =
     let h = call_shows_due plain program (fetch_plan w.object w.script) before after status causes' calm
     (lacks_none told w.object w.script w.bytes w.text w.object_told w.script_told) in
     let opened = fetch_comes plain program told before.input.left h.0 h.1 w.object w.bytes object_limit
-    (λ bytes. Fetches w.script script_limit (λ text. verify_plan bytes text)) w.object_told
+    (λ bytes. Fetches w.script script_limit (λ text. walk_files_plan bytes text)) w.object_told
     (spelled_short p w.bytes w.spells) h.2 in
-    let read = fetch_comes plain program told before.input.left h.0 h.1 w.script w.text script_limit (λ text. verify_plan w.bytes text)
+    let read = fetch_comes plain program told before.input.left h.0 h.1 w.script w.text script_limit (λ text. walk_files_plan w.bytes text)
     w.script_told w.script_short opened in
     let is : h.1 ≡ prints (session code input lines) =
-    judged_comes told before.input.left h.0 h.1 code lines input w.input_short w.bytes w.text w.script_good
+    walk_files_comes told before.input.left h.0 h.1 code lines input w.input_short w.bytes w.text w.script_good
     (spelled_accepted program p w.bytes w.spells)
     refl (λ reads. w.left (sym w.spells.code.reads ∙ reads)) read in (
       session code input lines,

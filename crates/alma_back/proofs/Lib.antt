@@ -2,7 +2,7 @@ pub mod Texts
 pub mod Counts
 pub mod Walks
 pub mod Shown
-pub mod Judging
+pub mod Plans
 pub mod Keeping
 mod WordLemmas
 mod Alike

@@ -41,12 +41,12 @@ unless_bad_line (Err line) object = Ends (silent (bad_line line))
 unless_bad_line (Ok lines) object = walk_plan (object_refusal program object) (object_code object) lines
 
 -- the same by the bytes of both
-abbrev pub verify_plan : (object script : List ℕ) → Plan ⊥ Due
-verify_plan object script = unless_bad_line (lines_in script) object
+abbrev pub walk_files_plan : (object script : List ℕ) → Plan ⊥ Due
+walk_files_plan object script = unless_bad_line (lines_in script) object
 
 -- the files of these names are fetched
 abbrev pub fetch_plan : (object script : List ℕ) → Plan ⊥ Due
-fetch_plan object script = Fetches object object_limit (λ bytes. Fetches script script_limit (λ lines. verify_plan bytes lines))
+fetch_plan object script = Fetches object object_limit (λ bytes. Fetches script script_limit (λ lines. walk_files_plan bytes lines))
 
 -- a word that cannot stand where it is, or one more than there are
 abbrev pub bad_word_plan : (word : ℕ) → Plan ⊥ Due

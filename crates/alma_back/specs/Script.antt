@@ -45,18 +45,18 @@ is_name text = is_word text && is_none (look_up reserved_words text)
 abbrev pub name_in : List ℕ → Option (List ℕ)
 name_in text = cond (is_name text) (Some text) None
 
--- the line of a letter and what stands behind its blank: s is 115, b is 98, p is 112
+-- the line of a letter and what stands behind its space: s is 115, b is 98, p is 112
 abbrev pub line_with : (letter : ℕ) → (rest : List ℕ) → Option Line
 line_with letter rest =
     cond (eqb letter 115) (option_map Forward (count_in rest))
     (cond (eqb letter 98) (option_map Backward (count_in rest))
     (cond (eqb letter 112) (option_map Value (name_in rest)) None))
 
--- the line that a text is, if it is one: o, which is 111, or a letter, a blank and more
+-- the line that a text is, if it is one: o, which is 111, or a letter, a space and more
 abbrev pub line_in : List ℕ → Option Line
 line_in [] = None
 line_in (letter ∷ []) = cond (eqb letter 111) (Some Output) None
-line_in (letter ∷ blank ∷ rest) = cond (eqb blank 32) (line_with letter rest) None
+line_in (letter ∷ space ∷ rest) = cond (eqb space 32) (line_with letter rest) None
 
 -- ---- a script
 

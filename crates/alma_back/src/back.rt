@@ -195,7 +195,8 @@ impl<'b, 'i> Back<'b, 'i> {
         }
     }
 
-    /// One step. Where memory is wanted, nothing has happened, and the run still goes on.
+    /// One step of a run that has not ended. Where memory is wanted, or so much was printed that more
+    /// might not be counted, nothing has happened, and the run still goes on.
     pub fn step(&mut self) -> Result<Step, NoMemory>
         requires running { IsTrue (runs self.old) }
         requires few { self.old.steps < step_limit }

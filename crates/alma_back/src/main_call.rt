@@ -12,7 +12,7 @@ use crate::serve::perform;
 use alma_base::Status;
 use alma_driver_words::exit;
 use alma_io::{Files, Sink, Source};
-use alma_plan::{refuse, refuse_number};
+use alma_plan::{refuse, tell_number};
 use std::alloc::Global;
 
 /// The name of the program.
@@ -25,7 +25,7 @@ fn tell<E: Sink>(err: &mut E, end: BackEnd) -> Status
     match end {
         BackEnd::Walked => Status(exit::SUCCEEDED),
         BackEnd::BadLine(line) => {
-            refuse_number(err, PROGRAM, exit::OWN_REFUSAL, b"bad line ", line as u64)
+            tell_number(err, PROGRAM, exit::OWN_REFUSAL, b"bad line ", line as u64)
         }
         BackEnd::Refused(refusal) => refuse(err, PROGRAM, refusal),
     }

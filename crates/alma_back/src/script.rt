@@ -44,7 +44,7 @@ fn name_of(text: &[u8]) -> Option<&[u8]>
     if is_name(text) { Some(text) } else { None }
 }
 
-// The line of a letter and what stands behind its blank.
+// The line of a letter and what stands behind its space.
 fn line_with(letter: u8, rest: &[u8]) -> Option<Line<'_>>
     ensures line { option_map line_of result ≡ line_with_of letter rest.now }
     ensures short { IfSome result IsShort }

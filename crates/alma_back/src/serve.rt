@@ -3,11 +3,11 @@ ghost use Rattle.std.specs.Prelude.{◌≡◌, IfOk, IfErr};
 ghost use Rattle.alma_plan.specs.Course.{Follows};
 ghost use Rattle.alma_plan.specs.Plan.{Fetches, plain};
 ghost use Rattle.alma_driver_words.specs.Words.{texts};
-ghost use Rattle.alma_back.specs.Due.{program, script_limit, verify_plan, fetch_plan, bad_word_plan, back_plan};
+ghost use Rattle.alma_back.specs.Due.{program, script_limit, walk_files_plan, fetch_plan, bad_word_plan, back_plan};
 ghost use Rattle.alma_back.specs.Ends.{back_end};
 
 use crate::end::BackEnd;
-use crate::walk::judge;
+use crate::walk::walk_files;
 use alma_base::OBJECT_LIMIT;
 use alma_driver_words::{is_file_name, split_word};
 use alma_io::{Files, Sink, Source};
@@ -52,12 +52,12 @@ fn serve_script<F: Files, I: Source, O: Sink>(
     input: &mut I,
     out: &mut O,
 ) -> BackEnd
-    ensures { Follows plain program (Fetches script.now script_limit (verify_plan object.now))
+    ensures { Follows plain program (Fetches script.now script_limit (walk_files_plan object.now))
         (F.side files.old) (F.side files.new) (I.side input.old) (I.side input.new)
         (O.side out.old) (O.side out.new) (back_end result) }
 {
     match files.fetch(alloc, script, SCRIPT_LIMIT) {
-        Ok(bytes) => judge(alloc, object, &bytes, input, out),
+        Ok(bytes) => walk_files(alloc, object, &bytes, input, out),
         Err(fault) => BackEnd::Refused(Refusal::Stopped(Stop::from(fault))),
     }
 }

@@ -8,7 +8,7 @@ ghost use Rattle.alma_verify.specs.Verified.{code_of_verified};
 ghost use Rattle.alma_plan.specs.Course.{Follows, Goes};
 ghost use Rattle.alma_plan.specs.Objects.{object_refusal};
 ghost use Rattle.alma_plan.specs.Plan.{Reads, prints, IsDue, plain};
-ghost use Rattle.alma_back.specs.Due.{program, verify_plan, walk_plan, walk_on_plan, script_limit};
+ghost use Rattle.alma_back.specs.Due.{program, walk_files_plan, walk_plan, walk_on_plan, script_limit};
 ghost use Rattle.alma_back.specs.Ends.{back_end};
 ghost use Rattle.alma_back.specs.Inner.{AreWalkable, lines_of};
 ghost use Rattle.alma_back.specs.Session.{session};
@@ -109,7 +109,7 @@ fn walk_object<I: Source, O: Sink>(
 
 /// Both files are there: the script is walked, unless one of its lines is bad, or the object is
 /// refused.
-pub fn judge<I: Source, O: Sink>(
+pub fn walk_files<I: Source, O: Sink>(
     alloc: Global,
     object: &[u8],
     script: &[u8],
@@ -118,7 +118,7 @@ pub fn judge<I: Source, O: Sink>(
 ) -> BackEnd
     requires { length script.now ≤ script_limit }
     ensures { (files : FilesSide)
-        → Follows plain program (verify_plan object.now script.now) files files
+        → Follows plain program (walk_files_plan object.now script.now) files files
         (I.side input.old) (I.side input.new) (O.side out.old) (O.side out.new) (back_end result) }
 {
     match read_lines(alloc, script) {

@@ -10,7 +10,7 @@ use alma_base::Status;
 use alma_driver_words::exit;
 use alma_io::{Failed, Sink};
 use alma_plan::{
-    Refusal, Stop, refuse, refuse_number, tell_fault, tell_refusal, tell_steps_out, write_text,
+    Refusal, Stop, refuse, tell_fault, tell_number, tell_refusal, tell_steps_out, write_text,
 };
 use itoa::Buffer;
 
@@ -78,7 +78,7 @@ fn tell<E: Sink>(err: &mut E, file: &str, end: End) -> Status
         End::BadCode(fault) => refuse(err, PROGRAM, Refusal::BadCode(fault)),
         End::TooLong => refuse(err, PROGRAM, Refusal::Stopped(Stop::TooLong)),
         End::TooMuchCode(size) => {
-            refuse_number(err, PROGRAM, exit::TOO_MUCH_CODE, b"too much code ", size)
+            tell_number(err, PROGRAM, exit::TOO_MUCH_CODE, b"too much code ", size)
         }
     }
 }

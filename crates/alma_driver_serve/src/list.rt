@@ -16,8 +16,8 @@ use alma_object::ObjectView;
 use alma_verify::open_object;
 use std::alloc::Global;
 
-// Writes a text.
-fn write_text<O: Sink>(text: &[u8], out: &mut O) -> End
+// Shows a text.
+fn show_text<O: Sink>(text: &[u8], out: &mut O) -> End
     ensures { Goes (λ due. due ≡ due_of (Succeeded None) text.now)
         (O.side out.old) (O.side out.new) result }
 {
@@ -33,7 +33,7 @@ fn list_code<O: Sink>(alloc: Global, code: &Code, out: &mut O) -> End
         (O.side out.old) (O.side out.new) result }
 {
     match list_text(alloc, code) {
-        Ok(text) => write_text(&text, out),
+        Ok(text) => show_text(&text, out),
         Err(NoMemory) => End::Memory,
     }
 }

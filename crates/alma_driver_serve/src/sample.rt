@@ -97,8 +97,8 @@ fn run_aside(alloc: Global, source: &[u8]) -> Result<Summary, NoMemory>
     }
 }
 
-// Tells of the run of a source of so many lines and bytes.
-fn tell<O: Sink>(out: &mut O, lines: u32, bytes: usize, told: Summary) -> End
+// Shows the line that sums up the run of a source of so many lines and bytes.
+fn show_summary<O: Sink>(out: &mut O, lines: u32, bytes: usize, told: Summary) -> End
     ensures { Goes (λ due. due
         ≡ due_of (Succeeded None) (sample_line lines bytes told.printed told.status))
         (O.side out.old) (O.side out.new) result }
@@ -117,7 +117,7 @@ fn sum_up<O: Sink>(alloc: Global, lines: u32, source: &[u8], out: &mut O) -> End
         (O.side out.old) (O.side out.new) result }
 {
     match run_aside(alloc, source) {
-        Ok(told) => tell(out, lines, source.len(), told),
+        Ok(told) => show_summary(out, lines, source.len(), told),
         Err(NoMemory) => End::Memory,
     }
 }

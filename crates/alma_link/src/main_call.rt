@@ -19,7 +19,7 @@ use alma_driver_words::exit;
 use alma_io::{Files, Sink, Source};
 use alma_ir::Program;
 use alma_join::JoinError;
-use alma_plan::{Refusal, Stop, refuse, refuse_number, report, tell_file, tell_program};
+use alma_plan::{Refusal, Stop, refuse, report, tell_file, tell_number, tell_program};
 use itoa::Buffer;
 use std::alloc::Global;
 
@@ -47,14 +47,15 @@ fn tell_import<'t, E: Sink>(err: &mut E, fault: &'t [u8], unit: u32, name: &'t [
         (E.side err.old) (E.side err.new) result.0 }
 {
     let mut digits = Buffer::new();
+    // `PROGRAM`, with what stands behind it in a line on err.
     let front = b"alma_link: ".as_slice();
     let number = digits.format(unit).as_bytes();
-    let blank = b" ".as_slice();
+    let space = b" ".as_slice();
     let end = b"\n".as_slice();
     report(
         err,
         exit::OWN_REFUSAL,
-        &[front, fault, number, blank, name, end],
+        &[front, fault, number, space, name, end],
     )
 }
 
@@ -78,7 +79,7 @@ fn tell_join<E: Sink>(err: &mut E, units: &[Program], error: JoinError) -> Statu
                 routine_name(units, unit, routine),
             )
         }
-        JoinError::TooLarge(unit) => refuse_number(
+        JoinError::TooLarge(unit) => tell_number(
             err,
             PROGRAM,
             exit::OWN_REFUSAL,

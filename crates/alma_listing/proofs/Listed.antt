@@ -27,7 +27,7 @@ use Rattle.alma_mean.specs.Laws.{ends_in_cut}
 use Rattle.alma_mean.proofs.Results.{further, uncut_lists_stay}
 use Rattle.alma_listing.specs.Alike.{Alike, HaveSame}
 use Rattle.alma_rules.specs.Parts.{append_stmts}
-use Rattle.alma_listing.specs.Lister.{lister, list_and_fail, write_cells, write_globals, listing_of}
+use Rattle.alma_listing.specs.Lister.{list_procedure, list_and_fail, write_cells, write_globals, listing_of}
 use Rattle.alma_listing.specs.Listing.{line_of_store, listing_text, closes, alternatives, global_cells, ListsAt, Lists, CostsFew}
 use Rattle.alma_listing.specs.Listing.{EachIsListed}
 use Rattle.alma_listing.proofs.AlikeLists.{under}
@@ -164,18 +164,18 @@ module _ (name : List ℕ) (gs : List Global) (body : Routine) (rest : List Rout
   abbrev number : ℕ
   number = suc (length rest)
 
-  lister_is : routine_at q number ≡ lister body.line gs
-  lister_is = get_or-append_seam rest (lister body.line gs) [] no_routine
+  list_procedure_is : routine_at q number ≡ list_procedure body.line gs
+  list_procedure_is = get_or-append_seam rest (list_procedure body.line gs) [] no_routine
 
   -- a routine behind the body has the same result and declares the same in both
-  same_result : (xs : List Routine) (j : ℕ) → (get_or (xs ++ (lister body.line gs ∷ [])) j no_routine).result ≡
+  same_result : (xs : List Routine) (j : ℕ) → (get_or (xs ++ (list_procedure body.line gs ∷ [])) j no_routine).result ≡
       (get_or xs j no_routine).result
   same_result [] zero = refl
   same_result [] (suc j) = refl
   same_result (x ∷ xs) zero = refl
   same_result (x ∷ xs) (suc j) = same_result xs j
 
-  same_declared : (xs : List Routine) (j : ℕ) → (get_or (xs ++ (lister body.line gs ∷ [])) j no_routine).declared ≡
+  same_declared : (xs : List Routine) (j : ℕ) → (get_or (xs ++ (list_procedure body.line gs ∷ [])) j no_routine).declared ≡
       (get_or xs j no_routine).declared
   same_declared [] zero = refl
   same_declared [] (suc j) = refl
@@ -198,7 +198,7 @@ module _ (name : List ℕ) (gs : List Global) (body : Routine) (rest : List Rout
       where
         procedure_same : (r : ℕ) → 0 < r → r < number → routine_at q r ≡ routine_at p r
         procedure_same zero low high = absurd (omega (arith, low))
-        procedure_same (suc j) low high = get_or_append_left rest (lister body.line gs ∷ []) no_routine j (omega (arith, high))
+        procedure_same (suc j) low high = get_or_append_left rest (list_procedure body.line gs ∷ []) no_routine j (omega (arith, high))
 
         result_same : (r : ℕ) → (routine_at q r).result ≡ (routine_at p r).result
         result_same zero = refl
@@ -221,7 +221,7 @@ module _ (name : List ℕ) (gs : List Global) (body : Routine) (rest : List Rout
       routine_written zero f t here = w_cut (omega arith)
       routine_written (suc k) f t here =
           subst (λ routine. Writes NoYield (Stays f number) (Below (suc k)) (4 + globals_visits gs) (line_of_store gs (f ∷ []))
-          (ev_stmts q input (level q input k) (body_with_lines routine) t)) (sym lister_is)
+          (ev_stmts q input (level q input k) (body_with_lines routine) t)) (sym list_procedure_is)
           (line_written q input f number gs k (λ l. omega (arith, l)) _ t here)
 
       entered : (m : ℕ) (f : Frame) → Writes NoYield (Stays f number) (Below m) (4 + globals_visits gs) (line_of_store gs (f ∷ []))
@@ -237,9 +237,9 @@ module _ (name : List ℕ) (gs : List Global) (body : Routine) (rest : List Rout
           let fits : nat_le (declared_cells q s + 0) 1048576 ≡ true = le-leb (declared_cells q s + 0) 1048576
           (omega (arith, sum, declared_few f.routine)) in
           subst (λ routine. Writes NoYield (Stays f number) (Below m) (4 + globals_visits gs) (line_of_store gs s) (entry routine))
-          (sym lister_is)
+          (sym list_procedure_is)
           (subst (λ w. Writes NoYield (Stays f number) (Below m) (4 + globals_visits gs) (line_of_store gs s)
-          (fault_unless fault.CellsFull w (λ _. body_at (lister body.line gs)))) (sym fits)
+          (fault_unless fault.CellsFull w (λ _. body_at (list_procedure body.line gs)))) (sym fits)
           (routine_written m f (own f number Unknown Unknown Unknown) own_is))
 
       fails : (m line : ℕ) (s : Store) → Closes (Below m) 4 [] Failed
@@ -375,7 +375,7 @@ costs_few name gs (body ∷ rest) =
     omega (
       arith,
       append_nodes body.body (list_and_fail (suc (length rest))),
-      routines_more rest (lister body.line gs),
+      routines_more rest (list_procedure body.line gs),
       globals_nodes []
           gs (more_stmts 0 (WriteText (125 ∷ 10 ∷ [])) no_stmts),
     )

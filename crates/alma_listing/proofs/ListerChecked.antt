@@ -26,7 +26,7 @@ use Rattle.alma_ir.proofs.Each.{each_of_append, each_of_both, each_follows}
 use Rattle.alma_resolved.specs.Room.{HasRoom}
 use Rattle.alma_listing.specs.Listing.{ListerIsChecked}
 use Rattle.alma_rules.specs.Parts.{append_stmts}
-use Rattle.alma_listing.specs.Lister.{lister, list_and_fail, listing_body, listing_of, write_cells, write_globals, write_line}
+use Rattle.alma_listing.specs.Lister.{list_procedure, list_and_fail, listing_body, listing_of, write_cells, write_globals, write_line}
 use Rattle.alma_listing.specs.Lister.{globals_stmts, cells_loop, cell_range}
 use Rattle.alma_listing.proofs.LineEach.{line_each, line_count}
 use Rattle.alma_rules.proofs.Phrases.{append_phrases}
@@ -50,10 +50,10 @@ module _ (name : List ℕ) (gs : List Global) (body : Routine) (rest : List Rout
   number = suc (length rest)
 
   abbrev last_routine : Routine
-  last_routine = lister body.line gs
+  last_routine = list_procedure body.line gs
 
-  lister_is : routine_at q number ≡ last_routine
-  lister_is = get_or-append_seam rest last_routine [] no_routine
+  list_procedure_is : routine_at q number ≡ last_routine
+  list_procedure_is = get_or-append_seam rest last_routine [] no_routine
 
   others_are : (r : ℕ) → 0 < r → r < number → routine_at q r ≡ routine_at p r
   others_are zero low high = absurd (omega (arith, low))
@@ -69,7 +69,7 @@ module _ (name : List ℕ) (gs : List Global) (body : Routine) (rest : List Rout
   each_routine Fact a b c (suc j) lt = elim (cases_lt (suc j) number) [
     | inl high ↦ subst (Fact (suc j)) (sym (others_are (suc j) (omega arith) high)) (b (suc j) (omega arith) high)
     | inr ge ↦ let last : number ≡ suc j = omega (arith, ge, lt, count_is) in subst (λ n. Fact n (routine_at q n)) last
-        (subst (Fact number) (sym lister_is) c)
+        (subst (Fact number) (sym list_procedure_is) c)
   ]
 
   -- a fact of each phrase
@@ -297,9 +297,9 @@ module _ (name : List ℕ) (gs : List Global) (body : Routine) (rest : List Rout
 
     own_hidden : (slot : ℕ) → 0 < slot → slot < 3 → IsHiddenSlot q number slot
     own_hidden slot some few = record {
-      exists = subst (λ routine. slot < routine.slots) (sym lister_is) few;
+      exists = subst (λ routine. slot < routine.slots) (sym list_procedure_is) few;
       position = λ e. absurd (omega (arith, e));
-      params = subst (λ routine. AllByRecursion (λ z. IsOutside z.slot (param_slots z) slot) routine.params) (sym lister_is) tt;
+      params = subst (λ routine. AllByRecursion (λ z. IsOutside z.slot (param_slots z) slot) routine.params) (sym list_procedure_is) tt;
       globals = λ e. absurd (omega (arith, e));
       roots = own_leaves slot some;
     }
@@ -410,7 +410,7 @@ module _ (name : List ℕ) (gs : List Global) (body : Routine) (rest : List Rout
     calls_checked =
         each_phrase (Calls p) (Calls q) (calls_in 0 (omega arith) body (listing_body body number) refl)
         (λ r low high x k. calls_in r high (routine_at p r) (routine_at p r) refl x k)
-        (((tt, tt), (tt, tt)), (lister_called, (((tt, tt), (tt, tt)), (((tt, tt), (tt, tt)), (((tt, tt), (tt, tt)), tt)))))
+        (((tt, tt), (tt, tt)), (list_procedure_called, (((tt, tt), (tt, tt)), (((tt, tt), (tt, tt)), (((tt, tt), (tt, tt)), tt)))))
         (line_each (Calls q number last_routine) (λ s c. Unit {0}) (λ t. ((tt, tt), (tt, tt))) (λ v. ((tt, tt), (tt, tt)))
         ((tt, tt), (tt, tt)) ((tt, tt), (tt, tt)) ((tt, tt), (tt, tt)) ((tt, tt), (tt, tt)) (λ s l g. ((tt, tt), (tt, tt)))
         (λ s l g. ((tt, tt), (tt, tt))) (λ s l g. ((tt, tt), (tt, tt))) (λ s l g. ((tt, tt), (tt, tt)))
@@ -420,14 +420,14 @@ module _ (name : List ℕ) (gs : List Global) (body : Routine) (rest : List Rout
         body_level : body.level ≡ 0
         body_level = ((h.nested 0 (omega arith)).body refl).0
 
-        lister_called : Calls q 0 (listing_body body number) (TestPhrase (CallTest number no_args 0))
-        lister_called =
-            let up : (routine_at q number).level ≡ 1 = ap (λ x. x.level) lister_is in (
-              ((omega arith, omega (arith, count_is)), subst (λ routine. IsNone routine.result) (sym lister_is) refl),
+        list_procedure_called : Calls q 0 (listing_body body number) (TestPhrase (CallTest number no_args 0))
+        list_procedure_called =
+            let up : (routine_at q number).level ≡ 1 = ap (λ x. x.level) list_procedure_is in (
+              ((omega arith, omega (arith, count_is)), subst (λ routine. IsNone routine.result) (sym list_procedure_is) refl),
               (
-                (omega (arith, up, body_level), sym (ap (λ x. x.outer) lister_is)),
+                (omega (arith, up, body_level), sym (ap (λ x. x.outer) list_procedure_is)),
                 subst (λ routine. ArgsFit routine.params no_args)
-                    (sym lister_is) tt,
+                    (sym list_procedure_is) tt,
               ),
             )
 

@@ -16,7 +16,7 @@ use Rattle.alma_ir.specs.View.{stmts_list, stmt_of, arms_list, expr_of, sels_lis
 use Rattle.alma_ir.specs.Lines.{stmt_count}
 use Rattle.alma_ir.specs.Phrases.{stmts_phrases}
 use Rattle.alma_ir.proofs.Views
-use Rattle.alma_listing.specs.Lister.{index, cell_range, cell_of_global, write_comma, write_cell, cells_loop, write_line, lister}
+use Rattle.alma_listing.specs.Lister.{index, cell_range, cell_of_global, write_comma, write_cell, cells_loop, write_line, list_procedure}
 use Rattle.alma_listing.proofs.LineEach.{line_count}
 
 -- what follows of a value that is there
@@ -64,7 +64,7 @@ loop_is d range v slot last body of_d of_range of_v of_body =
     λ i. a_loop (of_d i) (of_range i) 1 2 (Views.const_view (pos 0) i) ((Views.const_view v ∙ ap Const of_v) i) (pos 1) (of_body i)
 
 -- the procedure
-pub lister_is : (name : List ℕ) (params : List Param) (body : Stmts) (lines : List ℕ) (count line : ℕ) (gs : List Global) →
+pub list_procedure_is : (name : List ℕ) (params : List Param) (body : Stmts) (lines : List ℕ) (count line : ℕ) (gs : List Global) →
     name ≡ codes "list" → params ≡ [] → body ≡ write_line gs → count ≡ stmt_count (stmts_phrases body) → lines ≡ replicate count line →
     record {
       name = name;
@@ -78,8 +78,8 @@ pub lister_is : (name : List ℕ) (params : List Param) (body : Stmts) (lines : 
       line = line;
       lines =
           lines;
-    } ≡ lister line gs
-lister_is name params body lines count line gs of_name of_params of_body of_count of_lines =
+    } ≡ list_procedure line gs
+list_procedure_is name params body lines count line gs of_name of_params of_body of_count of_lines =
     λ i. record {
       name = of_name i;
       params = of_params i;

@@ -8,7 +8,7 @@ use Rattle.alma_ir.specs.Phrases.{Phrase, stmts_phrases}
 use Rattle.alma_rules.specs.Parts.{append_stmts}
 use Rattle.alma_lower_sound.specs.Entries.{of_each}
 use Rattle.alma_lower_sound.specs.Reads.{is_read_phrase, program_reads}
-use Rattle.alma_listing.specs.Lister.{lister, list_and_fail, listing_of, write_line}
+use Rattle.alma_listing.specs.Lister.{list_procedure, list_and_fail, listing_of, write_line}
 use Rattle.alma_listing.specs.Listing.{EachReadsAlike}
 use Rattle.alma_listing.proofs.LineEach.{line_each}
 use Rattle.alma_rules.proofs.Phrases.{append_phrases}
@@ -65,7 +65,7 @@ by_routines : (name : List ℕ) (gs : List Global) (rs : List Routine)
 by_routines name gs [] = refl
 by_routines name gs (body ∷ rest) =
     let number : ℕ = suc (length rest) in
-    let last : Routine = lister body.line gs in
+    let last : Routine = list_procedure body.line gs in
     list_any-append is_read_phrase (stmts_phrases (append_stmts body.body (list_and_fail number))) (of_each phrases (rest ++ (last ∷ [])))
     ∙ (λ i. with_tail body.body (list_and_fail number) (tail_reads_none number) i || with_last rest last (line_reads_none gs) i)
     ∙ sym (list_any-append is_read_phrase (phrases body) (of_each phrases rest))

@@ -67,8 +67,8 @@ globals_stmts [] = 0
 globals_stmts (g ∷ gs) = global_stmts g.cells + globals_stmts gs
 
 -- the procedure, at the line of the module
-abbrev pub lister : (line : ℕ) → List Global → Routine
-lister line gs = record {
+abbrev pub list_procedure : (line : ℕ) → List Global → Routine
+list_procedure line gs = record {
   name = codes "list";
   params = [];
   result = None;
@@ -84,17 +84,17 @@ lister line gs = record {
 -- ---- the program
 
 -- the procedure is called, and then nothing more succeeds
-abbrev pub list_and_fail : (lister : ℕ) → Stmts
+abbrev pub list_and_fail : (number : ℕ) → Stmts
 list_and_fail r = more_stmts 0 (TestStmt (CallTest r no_args 0)) (more_stmts 0 (TestStmt (Value (Const (pos 0)))) no_stmts)
 
 -- the body of the module with these statements behind, on the module's line
-abbrev pub listing_body : Routine → (lister : ℕ) → Routine
+abbrev pub listing_body : Routine → (number : ℕ) → Routine
 listing_body body r = record body { body = append_stmts body.body (list_and_fail r); lines = body.lines ++ (body.line ∷ body.line ∷ []) }
 
 -- the routines, the procedure last
 abbrev pub listing_routines : List Routine → List Global → List Routine
 listing_routines [] gs = []
-listing_routines (body ∷ rest) gs = listing_body body (suc (length rest)) ∷ (rest ++ (lister body.line gs ∷ []))
+listing_routines (body ∷ rest) gs = listing_body body (suc (length rest)) ∷ (rest ++ (list_procedure body.line gs ∷ []))
 
 -- the program that lists a program: its name and globals, and its routines with the procedure
 abbrev pub listing_of : Program → Program

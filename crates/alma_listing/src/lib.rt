@@ -6,4 +6,4 @@ mod procedure;
 mod program;
 mod returns;
 
-pub use program::{AllError, listing_program};
+pub use program::{ListingError, listing_program};

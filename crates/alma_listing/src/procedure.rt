@@ -26,8 +26,13 @@ const LIMIT: u32 = 2;
 const SLOTS: u32 = 3;
 
 /// The procedure for these variables, at the line of the module.
-pub(crate) fn lister(alloc: Global, globals: &[Variable], line: u32) -> Result<Routine, NoMemory>
-    ensures { IfOk result (λ r. routine_of r ≡ spec.lister line (map global_of globals.now)) }
+pub(crate) fn list_procedure(
+    alloc: Global,
+    globals: &[Variable],
+    line: u32,
+) -> Result<Routine, NoMemory>
+    ensures { IfOk result (λ r. routine_of r
+        ≡ spec.list_procedure line (map global_of globals.now)) }
 {
     let body = write_line(alloc, globals)?;
     let lines = Vec::from_elem(alloc, line, stmts_inside(&body)?)?;

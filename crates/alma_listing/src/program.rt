@@ -9,7 +9,7 @@ ghost use Rattle.alma_listing.specs.Lister as spec;
 ghost use Rattle.alma_listing.specs.Lister.{listing_of};
 ghost use Rattle.alma_listing.specs.Listing.{Lists, CostsFew};
 
-use crate::procedure::lister;
+use crate::procedure::list_procedure;
 use crate::returns::has_return;
 use alma_base::NoMemory;
 use alma_copy::{Moves, copy_global, copy_routine};
@@ -18,26 +18,26 @@ use std::alloc::Global;
 
 /// Why there is no program that lists another.
 #[derive(Clone, Copy, Debug, PartialEq, Eq)]
-pub enum AllError {
+pub enum ListingError {
     /// A RETURN stands in the body of the module.
     ModuleReturn,
     /// Memory ran out.
     Memory,
 }
 
-impl From<NoMemory> for AllError {
-    ghost use Rattle.alma_listing.specs.declared.program.AllError.{AllError};
+impl From<NoMemory> for ListingError {
+    ghost use Rattle.alma_listing.specs.declared.program.ListingError.{ListingError};
 
-    ghost from_gives = { λ _ error. error ≡ AllError.Memory };
+    ghost from_gives = { λ _ error. error ≡ ListingError.Memory };
 
     fn from(_: NoMemory) -> Self {
-        AllError::Memory
+        ListingError::Memory
     }
 }
 
 /// The program that lists another: behind the statements of the module it calls a procedure more,
 /// which writes the line of the store, and then fails, so that the next alternative is asked for.
-pub fn listing_program(alloc: Global, program: &Program) -> Result<Program, AllError>
+pub fn listing_program(alloc: Global, program: &Program) -> Result<Program, ListingError>
     requires checked { IsChecked (program_of program.now) }
     requires room { HasRoom (program_of program.now) }
     ensures program { IfOk result (λ q. program_of q ≡ listing_of (program_of program.now)) }
@@ -47,11 +47,11 @@ pub fn listing_program(alloc: Global, program: &Program) -> Result<Program, AllE
     ensures reads { IfOk result (λ q. program_reads (program_of q)
         ≡ program_reads (program_of program.now)) }
     ensures taken { IfOk result (λ q. HaveNoReturn (routine_at (program_of program.now) 0).body) }
-    ensures refused { result ≡ Err AllError.ModuleReturn
+    ensures refused { result ≡ Err ListingError.ModuleReturn
         → HaveNoReturn (routine_at (program_of program.now) 0).body → ⊥ }
 {
     if has_return(&program.routines[0].body) {
-        return Err(AllError::ModuleReturn);
+        return Err(ListingError::ModuleReturn);
     }
     Ok(copy_program(alloc, program)?)
 }
@@ -108,7 +108,7 @@ fn copy_routines(
     for routine in rest {
         copies.push(copy_routine(alloc, routine, &same_numbers())?)?;
     }
-    copies.push(lister(alloc, globals, body.line)?)?;
+    copies.push(list_procedure(alloc, globals, body.line)?)?;
     Ok(copies)
 }
 

@@ -31,14 +31,14 @@ known_parts program front name middle number end (suc k) some f m d e =
     ∙ ap (λ x. program ++ (codes ": fault " ++ x)) (sym (append_assoc name (codes " line " ++ decimal (suc k)) (codes "\n")))
 
 -- of a refusal
-pub refusal_parts : (file colon line column blank name end : List ℕ) (place : Place) → colon ≡ codes ":" → line ≡ decimal place.line
-    → column ≡ decimal place.column → blank ≡ codes ": " → end ≡ codes "\n"
-    → file ++ (colon ++ (line ++ (colon ++ (column ++ (blank ++ (name ++ (end ++ []))))))) ≡ refusal_line file (decimal place.line)
+pub refusal_parts : (file colon line column middle name end : List ℕ) (place : Place) → colon ≡ codes ":" → line ≡ decimal place.line
+    → column ≡ decimal place.column → middle ≡ codes ": " → end ≡ codes "\n"
+    → file ++ (colon ++ (line ++ (colon ++ (column ++ (middle ++ (name ++ (end ++ []))))))) ≡ refusal_line file (decimal place.line)
     (decimal place.column) name
-refusal_parts file colon line column blank name end place c l k b e =
-    ap (λ x. file ++ (x ++ (line ++ (x ++ (column ++ (blank ++ (name ++ (end ++ [])))))))) c
-    ∙ ap (λ x. file ++ (codes ":" ++ (x ++ (codes ":" ++ (column ++ (blank ++ (name ++ (end ++ [])))))))) l
-    ∙ ap (λ x. file ++ (codes ":" ++ (decimal place.line ++ (codes ":" ++ (x ++ (blank ++ (name ++ (end ++ [])))))))) k
+refusal_parts file colon line column middle name end place c l k b e =
+    ap (λ x. file ++ (x ++ (line ++ (x ++ (column ++ (middle ++ (name ++ (end ++ [])))))))) c
+    ∙ ap (λ x. file ++ (codes ":" ++ (x ++ (codes ":" ++ (column ++ (middle ++ (name ++ (end ++ [])))))))) l
+    ∙ ap (λ x. file ++ (codes ":" ++ (decimal place.line ++ (codes ":" ++ (x ++ (middle ++ (name ++ (end ++ [])))))))) k
     ∙ ap (λ x. file ++ (codes ":" ++ (decimal place.line ++ (codes ":" ++ (decimal place.column ++ (x ++ (name ++ (end ++ [])))))))) b
     ∙ ap (λ x. file ++ (codes ":" ++ (decimal place.line ++ (codes ":" ++ (decimal place.column ++ (codes ": " ++ (name ++ (x ++ []))))))))
     e

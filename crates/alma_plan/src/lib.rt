@@ -17,11 +17,11 @@ mod writing;
 
 pub use end::ProgramEnd;
 pub use open::open_code;
-pub use refusal::{Refusal, refuse, refuse_number, refuse_with};
+pub use refusal::{Refusal, refuse};
 pub use run::run_program;
 pub use source::{FileStop, tell_file};
 pub use stop::Stop;
 pub use store::store_program;
 pub use telling::{tell_fault, tell_program, tell_refusal, tell_steps_out};
 pub use words::bad_file;
-pub use writing::{report, write_text};
+pub use writing::{report, tell_line, tell_number, write_text};

@@ -1,12 +1,12 @@
 // Why calls are refused, in the words that all programs share.
-ghost use Rattle.std.specs.Prelude.{◌++◌, codes, decimal};
+ghost use Rattle.std.specs.Prelude.{◌++◌, codes};
 ghost use Rattle.alma_driver_words.specs.Exit as exit;
 ghost use Rattle.alma_plan.specs.Plan.{tells};
 ghost use Rattle.alma_plan.specs.Course.{Reports};
 ghost use Rattle.alma_plan.specs.Refusals.{with_number, object_fault_text, rule_fault_text, refusal_end};
 
 use crate::stop::Stop;
-use crate::writing::report;
+use crate::writing::{report, tell_line, tell_number};
 use alma_base::Status;
 use alma_code::VerifyFault;
 use alma_driver_words::exit;
@@ -81,41 +81,6 @@ fn refuse_code<E: Sink>(err: &mut E, program: &[u8], fault: VerifyFault) -> Stat
     )
 }
 
-/// Says a line on err in the name of a program: this status, or that of a write fault where err
-/// fails.
-pub fn refuse_with<'t, E: Sink>(
-    err: &mut E,
-    program: &'t [u8],
-    status: u8,
-    text: &'t [u8],
-) -> Status
-    ensures { Reports (tells program.now status text.now) (E.side err.old) (E.side err.new)
-        result.0 }
-{
-    let front = b": ".as_slice();
-    let end = b"\n".as_slice();
-    report(err, status, &[program, front, text, end])
-}
-
-/// Says a line on err, in the name of a program, that ends in a number: this status, or that of a
-/// write fault where err fails.
-pub fn refuse_number<'t, E: Sink>(
-    err: &mut E,
-    program: &'t [u8],
-    status: u8,
-    text: &'t [u8],
-    number: u64,
-) -> Status
-    ensures { Reports (tells program.now status (text.now ++ decimal number)) (E.side err.old)
-        (E.side err.new) result.0 }
-{
-    let mut digits = Buffer::new();
-    let front = b": ".as_slice();
-    let digits = digits.format(number).as_bytes();
-    let end = b"\n".as_slice();
-    report(err, status, &[program, front, text, digits, end])
-}
-
 /// Says on err, in the name of a program, why a call is refused: the status of that, or that of a
 /// write fault where err fails.
 pub fn refuse<E: Sink>(err: &mut E, program: &[u8], refusal: Refusal) -> Status
@@ -123,10 +88,10 @@ pub fn refuse<E: Sink>(err: &mut E, program: &[u8], refusal: Refusal) -> Status
 {
     match refusal {
         Refusal::BadWord(word) => {
-            refuse_number(err, program, exit::BAD_WORD, b"bad word ", word as u64)
+            tell_number(err, program, exit::BAD_WORD, b"bad word ", word as u64)
         }
         Refusal::BadObject(fault) => refuse_object(err, program, fault),
         Refusal::BadCode(fault) => refuse_code(err, program, fault),
-        Refusal::Stopped(stop) => refuse_with(err, program, stop.status(), stop.text()),
+        Refusal::Stopped(stop) => tell_line(err, program, stop.status(), stop.text()),
     }
 }

@@ -8,8 +8,8 @@ ghost use Rattle.alma_plan.specs.Programs.{fault_words, named_words, refuse_sour
 ghost use Rattle.alma_source.specs.Texts.{refusal_line};
 
 use crate::end::ProgramEnd;
-use crate::refusal::{Refusal, refuse, refuse_number, refuse_with};
-use crate::writing::report;
+use crate::refusal::{Refusal, refuse};
+use crate::writing::{report, tell_line, tell_number};
 use alma_base::{Place, RunFault, Status};
 use alma_code::End;
 use alma_driver_words::exit;
@@ -51,7 +51,7 @@ pub fn tell_fault<E: Sink>(err: &mut E, program: &[u8], fault: RunFault, line: u
 pub fn tell_steps_out<E: Sink>(err: &mut E, program: &[u8]) -> Status
     ensures { Reports (steps_out program.now) (E.side err.old) (E.side err.new) result.0 }
 {
-    refuse_with(err, program, exit::STEPS_OUT, b"steps out")
+    tell_line(err, program, exit::STEPS_OUT, b"steps out")
 }
 
 /// Says on err, in the name of a program, how the run of another ended, where one that failed ends
@@ -66,7 +66,7 @@ pub fn tell_program<E: Sink>(err: &mut E, program: &[u8], failed: u8, end: Progr
         ProgramEnd::Ended(End::Fault(fault), line) => tell_fault(err, program, fault, line),
         ProgramEnd::StepsOut => tell_steps_out(err, program),
         ProgramEnd::TooMuchCode(size) => {
-            refuse_number(err, program, exit::TOO_MUCH_CODE, b"too much code ", size)
+            tell_number(err, program, exit::TOO_MUCH_CODE, b"too much code ", size)
         }
         ProgramEnd::Stopped(stop) => refuse(err, program, Refusal::Stopped(stop)),
     }
@@ -87,12 +87,12 @@ fn tell_refusal_named<'t, E: Sink>(
     let line = line_digits.format(place.line).as_bytes();
     let column = column_digits.format(place.column).as_bytes();
     let colon = b":".as_slice();
-    let blank = b": ".as_slice();
+    let middle = b": ".as_slice();
     let end = b"\n".as_slice();
     report(
         err,
         exit::REFUSED,
-        &[file, colon, line, colon, column, blank, name, end],
+        &[file, colon, line, colon, column, middle, name, end],
     )
 }
 

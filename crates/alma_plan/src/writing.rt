@@ -1,13 +1,14 @@
 // Texts in parts, and what a call says on err at its end.
-ghost use Rattle.std.specs.Prelude.{◌≡◌, flat_map, IfSome};
+ghost use Rattle.std.specs.Prelude.{◌≡◌, ◌++◌, flat_map, decimal, IfSome};
 ghost use Rattle.alma_io.specs.Outside.{Writes};
-ghost use Rattle.alma_plan.specs.Plan.{ending_of};
+ghost use Rattle.alma_plan.specs.Plan.{ending_of, tells};
 ghost use Rattle.alma_plan.specs.Course.{Reports};
 
 use alma_base::Status;
 use alma_driver_words::exit;
 use alma_io::{Failed, Sink, write_all, write_parts};
 use arrayvec::ArrayVec;
+use itoa::Buffer;
 
 /// The greatest length of a text that goes out in one piece.
 const LINE_ROOM: usize = 512;
@@ -47,4 +48,34 @@ pub fn report<E: Sink>(err: &mut E, status: u8, text: &[&[u8]]) -> Status
         Ok(()) => Status(status),
         Err(_) => Status(exit::WRITE_FAULT),
     }
+}
+
+/// Says a line on err in the name of a program: this status, or that of a write fault where err
+/// fails.
+pub fn tell_line<'t, E: Sink>(err: &mut E, program: &'t [u8], status: u8, text: &'t [u8]) -> Status
+    ensures { Reports (tells program.now status text.now) (E.side err.old) (E.side err.new)
+        result.0 }
+{
+    let front = b": ".as_slice();
+    let end = b"\n".as_slice();
+    report(err, status, &[program, front, text, end])
+}
+
+/// Says a line on err, in the name of a program, that ends in a number: this status, or that of a
+/// write fault where err fails.
+pub fn tell_number<'t, E: Sink>(
+    err: &mut E,
+    program: &'t [u8],
+    status: u8,
+    text: &'t [u8],
+    number: u64,
+) -> Status
+    ensures { Reports (tells program.now status (text.now ++ decimal number)) (E.side err.old)
+        (E.side err.new) result.0 }
+{
+    let mut digits = Buffer::new();
+    let front = b": ".as_slice();
+    let digits = digits.format(number).as_bytes();
+    let end = b"\n".as_slice();
+    report(err, status, &[program, front, text, digits, end])
 }

@@ -18,7 +18,7 @@ use Rattle.alma_plan.proofs.ToldLemmas.{fetch_asks, fetch_comes, read_comes}
 use Rattle.alma_plan.proofs.UndisturbedLemmas.{call_shows_due}
 use Rattle.alma_pool.specs.Due.{program, turns_limit, turns_in, bad_turn_behind, pool_text, open_objects, play_on_plan, play_plan}
 use Rattle.alma_pool.specs.Due.{unless_bad_turn}
-use Rattle.alma_pool.specs.Due.{verify_plan}
+use Rattle.alma_pool.specs.Due.{play_files_plan}
 use Rattle.alma_pool.specs.Due.{objects_plan, fetch_plan, pool_plan}
 use Rattle.alma_pool.specs.Shown.{HaveObjectsOf, PlaysPrograms, ShowsPrograms}
 use Rattle.alma_pool.proofs.Objects.{object_codes, pool_alike, objects_count, objects_open, objects_read, objects_show}
@@ -44,13 +44,13 @@ module _ (told : List ℕ → Told) (name : List ℕ) (missing : told name ≡ M
   opened_lacks (Ok all) turns asks = played_lacks (list_any code_reads all) all turns asks
   opened_lacks (Err end) turns asks = asks
 
-  judged_lacks : (bad : Option ℕ) (turns : List ℕ) (objects : List (List ℕ)) → AsksOf told (unless_bad_turn bad turns objects) name → ⊥
-  judged_lacks None turns objects asks = opened_lacks (open_objects [] objects) (turns_in turns) asks
-  judged_lacks (Some turn) turns objects asks = asks
+  play_files_lacks : (bad : Option ℕ) (turns : List ℕ) (objects : List (List ℕ)) → AsksOf told (unless_bad_turn bad turns objects) name → ⊥
+  play_files_lacks None turns objects asks = opened_lacks (open_objects [] objects) (turns_in turns) asks
+  play_files_lacks (Some turn) turns objects asks = asks
 
   files_lack : (turns : List ℕ) (got files objects : List (List ℕ)) (programs : List Program) → HaveObjectsOf told files objects programs
       → AsksOf told (objects_plan turns got files) name → ⊥
-  files_lack turns got [] objects programs has asks = judged_lacks (bad_turn_behind (length got) 0 turns) turns got asks
+  files_lack turns got [] objects programs has asks = play_files_lacks (bad_turn_behind (length got) 0 turns) turns got asks
   files_lack turns got (file ∷ files) [] programs has asks = has
   files_lack turns got (file ∷ files) (bytes ∷ objects) [] has asks = has
   files_lack turns got (file ∷ files) (bytes ∷ objects) (p ∷ programs) has asks =
@@ -82,9 +82,9 @@ module _ (told : List ℕ → Told) (left : Option (List ℕ)) (reading : Readin
 files_come : (told : List ℕ → Told) (left : Option (List ℕ)) (reading : Reading) (due : Due) (turns : List ℕ)
     (got files objects : List (List ℕ)) (programs : List Program)
     → HaveObjectsOf told files objects programs → ComesOf told left reading due (objects_plan turns got files)
-    → ComesOf told left reading due (verify_plan turns (got ++ objects))
+    → ComesOf told left reading due (play_files_plan turns (got ++ objects))
 files_come told left reading due turns got [] [] [] has c =
-    subst (λ (all : List (List ℕ)). ComesOf told left reading due (verify_plan turns all)) (sym (append-nil got)) c
+    subst (λ (all : List (List ℕ)). ComesOf told left reading due (play_files_plan turns all)) (sym (append-nil got)) c
 files_come told left reading due turns got [] [] (p ∷ programs) has c = absurd has
 files_come told left reading due turns got [] (bytes ∷ objects) programs has c = absurd has
 files_come told left reading due turns got (file ∷ files) [] programs has c = absurd has
@@ -92,7 +92,7 @@ files_come told left reading due turns got (file ∷ files) (bytes ∷ objects) 
 files_come told left reading due turns got (file ∷ files) (bytes ∷ objects) (p ∷ programs) has c =
     let next = fetch_comes plain program told left reading due file bytes object_limit (λ b. objects_plan turns (got ++ b ∷ []) files)
     has.0 (spelled_short p bytes has.1) c in
-    subst (λ (all : List (List ℕ)). ComesOf told left reading due (verify_plan turns all)) (append_assoc got (bytes ∷ []) objects)
+    subst (λ (all : List (List ℕ)). ComesOf told left reading due (play_files_plan turns all)) (append_assoc got (bytes ∷ []) objects)
     (files_come told left reading due turns (got ++ bytes ∷ []) files objects programs has.2 next)
 
 -- ---- the call

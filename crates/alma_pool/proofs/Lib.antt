@@ -5,7 +5,7 @@ pub mod Plans
 pub mod Opening
 pub mod Playing
 pub mod Showing
-pub mod Judging
+pub mod PlayFiles
 pub mod WordLemmas
 pub mod Objects
 pub mod Calls

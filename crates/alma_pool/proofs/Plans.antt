@@ -41,12 +41,12 @@ own_played : (opened : Result (List PlainCode) Ending) (turns : List ℕ) → ((
 own_played (Ok all) turns refused = own_on (list_any code_reads all) all turns
 own_played (Err end) turns refused = own_status (silent end) 9 (refused end refl) (inr (omega arith))
 
-own_judged : (bad : Option ℕ) (turns : List ℕ) (objects : List (List ℕ)) → HasOwnEnds plain (unless_bad_turn bad turns objects)
-own_judged None turns objects = own_played (open_objects [] objects) _ (opening_status [] objects)
-own_judged (Some turn) turns objects = own_status _ 13 refl (inr (omega arith))
+own_play_files : (bad : Option ℕ) (turns : List ℕ) (objects : List (List ℕ)) → HasOwnEnds plain (unless_bad_turn bad turns objects)
+own_play_files None turns objects = own_played (open_objects [] objects) _ (opening_status [] objects)
+own_play_files (Some turn) turns objects = own_status _ 13 refl (inr (omega arith))
 
 own_fetching : (turns : List ℕ) (got names : List (List ℕ)) → HasOwnEnds plain (objects_plan turns got names)
-own_fetching turns got [] = own_judged _ turns got
+own_fetching turns got [] = own_play_files _ turns got
 own_fetching turns got (name ∷ names) = λ bytes. own_fetching turns (got ++ bytes ∷ []) names
 
 own_asked : (words : List (List ℕ)) → HasOwnEnds plain (fetch_plan words)

@@ -18,18 +18,18 @@ use Rattle.alma_pool.proofs.Players.{pool_of}
 -- ---- one program
 
 -- the parts of its lines, one after another
-abbrev parts_of : (first number blank word fault bytes count end output : List ℕ) → List ℕ
-parts_of first number blank word fault bytes count end output =
-    first ++ (number ++ (blank ++ (word ++ (fault ++ (bytes ++ (count ++ (end ++ (output ++ (end ++ [])))))))))
+abbrev parts_of : (first number space word fault bytes count end output : List ℕ) → List ℕ
+parts_of first number space word fault bytes count end output =
+    first ++ (number ++ (space ++ (word ++ (fault ++ (bytes ++ (count ++ (end ++ (output ++ (end ++ [])))))))))
 
-pub lines_parts : (first number blank word fault bytes count end output : List ℕ) (n : ℕ) → first ≡ codes "program " → number ≡ decimal n
-    → blank ≡ codes " "
+pub lines_parts : (first number space word fault bytes count end output : List ℕ) (n : ℕ) → first ≡ codes "program " → number ≡ decimal n
+    → space ≡ codes " "
     → bytes ≡ codes " bytes " → count ≡ decimal (length output) → end ≡ codes "\n"
-    → first ++ (number ++ (blank ++ (word ++ (fault ++ (bytes ++ (count ++ (end ++ (output ++ (end ++ []))))))))) ≡ program_lines n
+    → first ++ (number ++ (space ++ (word ++ (fault ++ (bytes ++ (count ++ (end ++ (output ++ (end ++ []))))))))) ≡ program_lines n
     (word ++ fault) output
-lines_parts first number blank word fault bytes count end output n f m b y k e =
-    ap (λ x. parts_of x number blank word fault bytes count end output) f
-    ∙ ap (λ x. parts_of (codes "program ") x blank word fault bytes count end output) m
+lines_parts first number space word fault bytes count end output n f m b y k e =
+    ap (λ x. parts_of x number space word fault bytes count end output) f
+    ∙ ap (λ x. parts_of (codes "program ") x space word fault bytes count end output) m
     ∙ ap (λ x. parts_of (codes "program ") (decimal n) x word fault bytes count end output) b
     ∙ ap (λ x. parts_of (codes "program ") (decimal n) (codes " ") word fault x count end output) y
     ∙ ap (λ x. parts_of (codes "program ") (decimal n) (codes " ") word fault (codes " bytes ") x end output) k

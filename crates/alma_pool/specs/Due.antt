@@ -106,12 +106,12 @@ unless_bad_turn (Some turn) turns objects = Ends (silent (bad_turn turn))
 unless_bad_turn None turns objects = play_plan (open_objects [] objects) (turns_in turns)
 
 -- the first bad byte of the file of turns comes before any fault of an object
-abbrev pub verify_plan : (turns : List ℕ) → (objects : List (List ℕ)) → Plan ⊥ Due
-verify_plan turns objects = unless_bad_turn (bad_turn_behind (length objects) 0 turns) turns objects
+abbrev pub play_files_plan : (turns : List ℕ) → (objects : List (List ℕ)) → Plan ⊥ Due
+play_files_plan turns objects = unless_bad_turn (bad_turn_behind (length objects) 0 turns) turns objects
 
 -- the objects of these names are fetched, behind those that were
 abbrev pub objects_plan : (turns : List ℕ) → (got : List (List ℕ)) → (names : List (List ℕ)) → Plan ⊥ Due
-objects_plan turns got [] = verify_plan turns got
+objects_plan turns got [] = play_files_plan turns got
 objects_plan turns got (name ∷ names) = Fetches name object_limit (λ bytes. objects_plan turns (got ++ bytes ∷ []) names)
 
 -- a word that cannot stand where it is, or one more than there are

@@ -12,7 +12,7 @@ use crate::serve::perform;
 use alma_base::Status;
 use alma_driver_words::exit;
 use alma_io::{Files, Sink, Source};
-use alma_plan::{refuse, refuse_number};
+use alma_plan::{refuse, tell_number};
 use std::alloc::Global;
 
 /// The name of the program.
@@ -25,7 +25,7 @@ fn tell<E: Sink>(err: &mut E, end: PoolEnd) -> Status
     match end {
         PoolEnd::Shown => Status(exit::SUCCEEDED),
         PoolEnd::BadTurn(turn) => {
-            refuse_number(err, PROGRAM, exit::OWN_REFUSAL, b"bad turn ", turn as u64)
+            tell_number(err, PROGRAM, exit::OWN_REFUSAL, b"bad turn ", turn as u64)
         }
         PoolEnd::Refused(refusal) => refuse(err, PROGRAM, refusal),
     }

@@ -6,7 +6,7 @@ ghost use Rattle.alma_code.specs.Reads.{code_reads};
 ghost use Rattle.alma_io.specs.Sides.{FilesSide};
 ghost use Rattle.alma_plan.specs.Course.{Follows, Goes};
 ghost use Rattle.alma_plan.specs.Plan.{Reads, prints, IsDue, plain};
-ghost use Rattle.alma_pool.specs.Due.{program, bad_turn_behind, verify_plan, open_objects, play_plan, play_on_plan, pool_text, turns_in, turns_limit};
+ghost use Rattle.alma_pool.specs.Due.{program, bad_turn_behind, play_files_plan, open_objects, play_plan, play_on_plan, pool_text, turns_in, turns_limit};
 ghost use Rattle.alma_pool.specs.Ends.{pool_end};
 ghost use Rattle.alma_pool.specs.Inner.{players_at_start, all_bytes, codes_of, shown_text};
 ghost use Rattle.alma_pool.specs.Pool.{after_turns};
@@ -145,7 +145,7 @@ fn play_objects<I: Source, O: Sink>(
 
 /// All files are there: the turns are made, unless one of them may not stand there, or an object is
 /// refused.
-pub fn judge<I: Source, O: Sink>(
+pub fn play_files<I: Source, O: Sink>(
     alloc: Global,
     turns: &[u8],
     objects: &[Vec<u8>],
@@ -154,7 +154,7 @@ pub fn judge<I: Source, O: Sink>(
 ) -> PoolEnd
     requires { length turns.now ≤ turns_limit }
     ensures { (files : FilesSide) → Follows plain program
-        (verify_plan turns.now (all_bytes objects.now)) files files
+        (play_files_plan turns.now (all_bytes objects.now)) files files
         (I.side input.old) (I.side input.new) (O.side out.old) (O.side out.new)
         (pool_end result) }
 {

@@ -8,7 +8,7 @@ ghost use Rattle.alma_pool.specs.Ends.{pool_end};
 ghost use Rattle.alma_pool.specs.Inner.{all_bytes};
 
 use crate::end::PoolEnd;
-use crate::play::judge;
+use crate::play::play_files;
 use crate::turns::TURNS_LIMIT;
 use alma_base::OBJECT_LIMIT;
 use alma_driver_words::split_word;
@@ -33,7 +33,7 @@ fn serve_objects<F: Files, I: Source, O: Sink>(
         (O.side out.old) (O.side out.new) (pool_end result) }
 {
     let Some((name, rest)) = split_word(names) else {
-        return judge(alloc, turns, got.as_slice(), input, out);
+        return play_files(alloc, turns, got.as_slice(), input, out);
     };
     match files.fetch(alloc, name, OBJECT_LIMIT) {
         Ok(bytes) => {

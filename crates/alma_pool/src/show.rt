@@ -47,14 +47,14 @@ fn show_parts<'t, O: Sink>(
     let mut count_digits = Buffer::new();
     let first = b"program ".as_slice();
     let number = number_digits.format(number).as_bytes();
-    let blank = b" ".as_slice();
+    let space = b" ".as_slice();
     let bytes = b" bytes ".as_slice();
     let count = count_digits.format(output.len()).as_bytes();
     let end = b"\n".as_slice();
     write_parts(
         out,
         &[
-            first, number, blank, word, fault, bytes, count, end, output, end,
+            first, number, space, word, fault, bytes, count, end, output, end,
         ],
     )
 }

@@ -18,7 +18,7 @@ use alma_machine::{Machine, RunEnd, Step};
 use std::alloc::Global;
 
 // Writes the line of the machine's last step, in one call. An error is how the run is cut short.
-fn tell<K: Sink>(
+fn write_step<K: Sink>(
     line: &mut Vec<u8>,
     machine: &Machine<'_, '_>,
     step: Step,
@@ -45,7 +45,7 @@ fn tell<K: Sink>(
 }
 
 // Writes that the steps ran out. An error is how the run is cut short.
-fn tell_steps_end<K: Sink>(line: &mut Vec<u8>, out: &mut K) -> Result<(), RunEnd>
+fn write_steps_end<K: Sink>(line: &mut Vec<u8>, out: &mut K) -> Result<(), RunEnd>
     ensures ok { OnOk result
         (Appends (K.side out.old).written (K.side out.new).written (flat_map text_line steps_end)) }
     ensures front { OnErr result
@@ -113,7 +113,7 @@ pub fn trace<K: Sink>(
         let Ok(step) = machine.step() else {
             return RunEnd::Memory;
         };
-        if let Err(cut) = tell(&mut line, machine, step, watches, out) {
+        if let Err(cut) = write_step(&mut line, machine, step, watches, out) {
             return cut;
         }
         if let Step::Done(end) = step {
@@ -122,7 +122,7 @@ pub fn trace<K: Sink>(
         made += 1;
     }
     machine.keeps_standing();
-    if let Err(cut) = tell_steps_end(&mut line, out) {
+    if let Err(cut) = write_steps_end(&mut line, out) {
         return cut;
     }
     RunEnd::StepsOut

@@ -3,7 +3,7 @@ use Rattle.alma_plan.proofs.CauseLemmas.{causes_of, plain_has_one}
 use Rattle.alma_plan.specs.Plan.{plain}
 use Rattle.alma_back.specs.Due.{program, back_plan}
 use Rattle.alma_back.specs.Ends.{back_end}
-use Rattle.alma_back.proofs.Judging.{own_plan}
+use Rattle.alma_back.proofs.Plans.{own_plan}
 use Rattle.alma_back.proofs.main_call.back_main.Goals as goal
 
 pub returns-clause-answer : goal.returns-clause-answer

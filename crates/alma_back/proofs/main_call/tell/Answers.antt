@@ -7,7 +7,7 @@ pub returns-in-Walked : goal.returns-in-Walked
 returns-in-Walked g c = rw c.in-Walked.is (said refl (gains_none _))
 
 pub returns-in-BadLine : goal.returns-in-BadLine
-returns-in-BadLine g c = rw c.in-BadLine.is c.refuse_number.ensures
+returns-in-BadLine g c = rw c.in-BadLine.is c.tell_number.ensures
 
 pub returns-in-Refused : goal.returns-in-Refused
 returns-in-Refused g c = rw c.in-Refused.is c.refuse.ensures

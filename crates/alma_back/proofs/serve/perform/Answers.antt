@@ -1,4 +1,4 @@
-use Rattle.alma_back.proofs.Judging.{bad_followed}
+use Rattle.alma_back.proofs.Plans.{bad_followed}
 use Rattle.alma_back.proofs.serve.perform.Goals as goal
 
 pub returns-in-Ok : goal.returns-in-Ok

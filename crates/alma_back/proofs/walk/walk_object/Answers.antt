@@ -1,7 +1,7 @@
 use Rattle.alma_verify.specs.Verified.{code_of_verified}
 use Rattle.alma_back.specs.Due.{program}
 use Rattle.alma_back.specs.Inner.{lines_of}
-use Rattle.alma_back.proofs.Judging.{walked_opened_to, walked_refused}
+use Rattle.alma_back.proofs.Plans.{walked_opened_to, walked_refused}
 use Rattle.alma_back.proofs.walk.walk_object.Goals as goal
 
 pub returns-in-Ok : goal.returns-in-Ok

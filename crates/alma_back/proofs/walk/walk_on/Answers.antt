@@ -7,7 +7,7 @@ use Rattle.alma_back.specs.Ends.{back_end}
 use Rattle.alma_back.specs.Inner.{lines_of}
 use Rattle.alma_back.specs.Session.{lines_text}
 use Rattle.alma_back.specs.Standing.{Standing}
-use Rattle.alma_back.proofs.Judging.{goes_walk, walk_end}
+use Rattle.alma_back.proofs.Plans.{goes_walk, walk_end}
 use Rattle.alma_back.proofs.walk.walk_on.Goals as goal
 
 pub returns-in-Ok-show_lines : goal.returns-in-Ok-show_lines

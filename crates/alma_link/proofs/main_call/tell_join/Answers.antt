@@ -10,7 +10,7 @@ pub returns-in-HeadDiffers : goal.returns-in-HeadDiffers
 returns-in-HeadDiffers g c = rw c.in-HeadDiffers.is (rw c.routine_name-in-HeadDiffers.ensures at c.tell_import-in-HeadDiffers.ensures)
 
 pub returns-in-TooLarge : goal.returns-in-TooLarge
-returns-in-TooLarge g c = rw c.in-TooLarge.is (rw c.from.ensures at c.refuse_number.ensures)
+returns-in-TooLarge g c = rw c.in-TooLarge.is (rw c.from.ensures at c.tell_number.ensures)
 
 pub returns-in-Memory : goal.returns-in-Memory
 returns-in-Memory g c = rw c.in-Memory.is c.refuse.ensures

@@ -16,4 +16,4 @@ pub returns : goal.returns
 returns c =
     routines_are routine_of routine_of _ _ c.args.rest.now c.loop-routine.routine-index _ _ _ c.loop-routine-test.false
     c.loop-routine.invariant
-    c.in_ok-lister.ensures c.in_ok-push-3.ensures.items
+    c.in_ok-list_procedure.ensures c.in_ok-push-3.ensures.items

@@ -3,7 +3,7 @@ use Rattle.std.proofs.lemmas.List.{length-map}
 use Rattle.std.specs.Global.{Vec}
 use Rattle.alma_pool.specs.Due.{bad_turn_behind, turns_in}
 use Rattle.alma_pool.specs.Inner.{all_bytes}
-use Rattle.alma_pool.proofs.Judging.{opened_count, played_refused}
+use Rattle.alma_pool.proofs.PlayFiles.{opened_count, played_refused}
 use Rattle.alma_pool.proofs.play.play_objects.Goals as goal
 
 pub play-requires-clause-good : goal.play-requires-clause-good

@@ -10,7 +10,7 @@ use Rattle.alma_pool.specs.Inner.{all_bytes}
 use Rattle.alma_pool.proofs.serve.+serve_objects.Goals as goal
 
 pub returns-in_default : goal.returns-in_default
-returns-in_default g t c = rw c.in_default.ensures (rw c.as_slice.ensures.value at (c.judge.ensures (g.F.Files.side c.args.files.now)))
+returns-in_default g t c = rw c.in_default.ensures (rw c.as_slice.ensures.value at (c.play_files.ensures (g.F.Files.side c.args.files.now)))
 
 pub returns-in-Err : goal.returns-in-Err
 returns-in-Err g t c =

@@ -12,9 +12,9 @@ BEGIN
   WHILE (READ(c); c > " ") DO IF long < Most THEN long := long + 1; word[long] := c END END
 END Word;
 
-PROCEDURE Blanks(count: INTEGER);
+PROCEDURE Spaces(count: INTEGER);
 VAR i: INTEGER;
-BEGIN FOR i := 1 TO count DO WRITE(" ") END END Blanks;
+BEGIN FOR i := 1 TO count DO WRITE(" ") END END Spaces;
 
 PROCEDURE Signs(n: INTEGER): INTEGER;
 (* of how many signs n is, when it is written *)
@@ -24,10 +24,10 @@ END Signs;
 
 PROCEDURE Left;
 VAR i: INTEGER;
-BEGIN FOR i := 1 TO long DO WRITE(word[i]) END; Blanks(Most - long) END Left;
+BEGIN FOR i := 1 TO long DO WRITE(word[i]) END; Spaces(Most - long) END Left;
 
 PROCEDURE Right(n, wide: INTEGER);
-BEGIN Blanks(wide - Signs(n)); WRITE(n) END Right;
+BEGIN Spaces(wide - Signs(n)); WRITE(n) END Right;
 
 BEGIN
   sum := 0;
@@ -36,5 +36,5 @@ BEGIN
     sum := sum + pieces * price;
     Left; Right(pieces, 4); Right(price, 7); Right(pieces * price, 8); WRITELN
   END;
-  Blanks(Most + 11); Right(sum, 8); WRITELN
+  Spaces(Most + 11); Right(sum, 8); WRITELN
 END Columns.

@@ -3,13 +3,13 @@ MODULE Signs;
 VAR c: CHAR; count: INTEGER;
 
 PROCEDURE Next;
-(* c becomes the next sign that is no blank *)
+(* c becomes the next sign that is no space *)
 BEGIN REPEAT READ(c) UNTIL c <> " " END Next;
 
 BEGIN
   count := 0;
   WHILE (READ(c); c = " ") DO count := count + 1 END;
-  WRITELN(count, " blanks, and c is still the last one: ", c = " ");
+  WRITELN(count, " spaces, and c is still the last one: ", c = " ");
   READ(c);
   WRITELN("what ended the loop is read again: ", c);
   Next;

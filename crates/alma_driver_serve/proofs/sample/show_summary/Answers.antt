@@ -5,7 +5,7 @@ use Rattle.alma_driver_outcome.specs.Outcome.{due_of}
 use Rattle.alma_driver_outcome.specs.declared.end.End.TheVariants.{Succeeded}
 use Rattle.alma_driver_outcome.proofs.CourseLemmas.{goes_cut, goes_whole}
 use Rattle.alma_driver_serve.proofs.SampleLemmas.{IsSummary}
-use Rattle.alma_driver_serve.proofs.sample.tell.Goals as goal
+use Rattle.alma_driver_serve.proofs.sample.show_summary.Goals as goal
 
 pub returns-in-Ok : goal.returns-in-Ok
 returns-in-Ok g c =

@@ -13,7 +13,7 @@ use Rattle.alma_plan.specs.Refusals.{refusal_end}
 use Rattle.alma_plan.specs.declared.refusal.Refusal.{Refusal}
 use Rattle.alma_plan.proofs.Courses.{course_ends, course_starved, gains_none}
 use Rattle.alma_plan.specs.Objects.{object_refusal}
-use Rattle.alma_pool.specs.Due.{program, or_refused, open_objects, play_plan, unless_bad_turn, verify_plan, bad_turn_behind, turns_in}
+use Rattle.alma_pool.specs.Due.{program, or_refused, open_objects, play_plan, unless_bad_turn, play_files_plan, bad_turn_behind, turns_in}
 use Rattle.alma_pool.specs.Inner.{codes_of, IsRefused}
 
 -- as many codes as objects
@@ -55,18 +55,18 @@ played_refused objects turns refusal files input out (inr e) =
 
 module _ (turns : List ℕ) (objects : List (List ℕ)) (files : FilesSide) (input input' : SourceSide) (out out' : SinkSide) where
   -- a byte may not stand in the file of turns
-  pub judged_bad : (turn : ℕ) → bad_turn_behind (length objects) 0 turns ≡ Some turn
-      → Follows plain program (verify_plan turns objects) files files input input out out
+  pub play_files_bad : (turn : ℕ) → bad_turn_behind (length objects) 0 turns ≡ Some turn
+      → Follows plain program (play_files_plan turns objects) files files input input out out
       (tells program 13 (codes "bad turn " ++ decimal turn))
-  judged_bad turn e =
+  play_files_bad turn e =
       subst (λ (bad : Option ℕ). Follows plain program (unless_bad_turn bad turns objects) files files input input out out
       (tells program 13 (codes "bad turn " ++ decimal turn))) (sym e)
       (silent_end (tells program 13 (codes "bad turn " ++ decimal turn)) files input out)
 
   -- all may
-  pub judged_good : (end : Ending) → bad_turn_behind (length objects) 0 turns ≡ None
+  pub play_files_good : (end : Ending) → bad_turn_behind (length objects) 0 turns ≡ None
       → Follows plain program (play_plan (open_objects [] objects) (turns_in turns)) files files input input' out out' end
-      → Follows plain program (verify_plan turns objects) files files input input' out out' end
-  judged_good end e follows =
+      → Follows plain program (play_files_plan turns objects) files files input input' out out' end
+  play_files_good end e follows =
       subst (λ (bad : Option ℕ). Follows plain program (unless_bad_turn bad turns objects) files files input input' out out' end) (sym e)
       follows

@@ -19,7 +19,7 @@ use Rattle.alma_plan.proofs.Courses.{course_ends, course_starved, gains_none}
 use Rattle.alma_plan.proofs.PlainEnds.{own_status, refusal_status}
 use Rattle.alma_back.specs.declared.end.BackEnd.{BackEnd}
 use Rattle.alma_back.specs.declared.end.BackEnd.TheVariants.{Walked, BadLine, Refused}
-use Rattle.alma_back.specs.Due.{program, walk_on_plan, walk_plan, unless_bad_line, verify_plan, fetch_plan, bad_word_plan, with_script}
+use Rattle.alma_back.specs.Due.{program, walk_on_plan, walk_plan, unless_bad_line, walk_files_plan, fetch_plan, bad_word_plan, with_script}
 use Rattle.alma_back.specs.Due.{back_plan}
 use Rattle.alma_back.specs.Ends.{back_end}
 use Rattle.alma_back.specs.Inner.{IsUnread, Shows}
@@ -57,16 +57,16 @@ module _ (object : List ℕ) (files : FilesSide) (input : SourceSide) (out : Sin
       (silent_end (refusal_end program refusal) files input out))
 
   -- the script was not read
-  pub judged_unread : (script : List ℕ) (end : BackEnd) → IsUnread script end
-      → Follows plain program (verify_plan object script) files files input input out out (back_end end)
-  judged_unread script Walked h = absurd h
-  judged_unread script (BadLine line) h =
+  pub walk_files_unread : (script : List ℕ) (end : BackEnd) → IsUnread script end
+      → Follows plain program (walk_files_plan object script) files files input input out out (back_end end)
+  walk_files_unread script Walked h = absurd h
+  walk_files_unread script (BadLine line) h =
       subst (λ (r : Result (List Line) ℕ). Follows plain program (unless_bad_line r object) files files input input out out
       (back_end (BadLine line))) (sym h)
       (course_ends plain program (silent (back_end (BadLine line))) files input out out (back_end (BadLine line))
       (silent_end (back_end (BadLine line)) files input out))
-  judged_unread script (Refused refusal) h =
-      subst (λ (r : Refusal). Follows plain program (verify_plan object script) files files input input out out (refusal_end program r))
+  walk_files_unread script (Refused refusal) h =
+      subst (λ (r : Refusal). Follows plain program (walk_files_plan object script) files files input input out out (refusal_end program r))
       (sym h)
       (course_starved program _ _ files input out)
 
@@ -82,10 +82,10 @@ module _ (object : List ℕ) (files : FilesSide) (input : SourceSide) (out : Sin
         follows)
 
     -- the script was read
-    pub judged_read_to : (script : List ℕ) (lines : List Line) → lines_in script ≡ Ok lines
+    pub walk_files_read_to : (script : List ℕ) (lines : List Line) → lines_in script ≡ Ok lines
         → Follows plain program (walk_plan (object_refusal program object) (object_code object) lines) files files input input' out out' end
-        → Follows plain program (verify_plan object script) files files input input' out out' end
-    judged_read_to script lines is follows =
+        → Follows plain program (walk_files_plan object script) files files input input' out out' end
+    walk_files_read_to script lines is follows =
         subst (λ (r : Result (List Line) ℕ). Follows plain program (unless_bad_line r object) files files input input' out out' end)
         (sym is) follows
 
@@ -110,16 +110,16 @@ own_walked : (refusal : Option Ending) (code : PlainCode) (lines : List Line) �
 own_walked None code lines refused = own_on (code_reads code) code lines
 own_walked (Some end) code lines refused = own_status (silent end) 9 (refused end refl) (inr (omega arith))
 
-own_judged : (r : Result (List Line) ℕ) (object : List ℕ) → HasOwnEnds plain (unless_bad_line r object)
-own_judged (Err line) object = own_status _ 13 refl (inr (omega arith))
-own_judged (Ok lines) object = own_walked (object_refusal program object) (object_code object) lines (refusal_status program object)
+own_walk_files : (r : Result (List Line) ℕ) (object : List ℕ) → HasOwnEnds plain (unless_bad_line r object)
+own_walk_files (Err line) object = own_status _ 13 refl (inr (omega arith))
+own_walk_files (Ok lines) object = own_walked (object_refusal program object) (object_code object) lines (refusal_status program object)
 
 own_cond : (b : Bool) (p q : Plan ⊥ Due) → HasOwnEnds plain p → HasOwnEnds plain q → HasOwnEnds plain (cond b p q)
 own_cond true p q h k = h
 own_cond false p q h k = k
 
 own_asked : (object script : List ℕ) → HasOwnEnds plain (fetch_plan object script)
-own_asked object script = λ bytes lines. own_judged (lines_in lines) bytes
+own_asked object script = λ bytes lines. own_walk_files (lines_in lines) bytes
 
 own_script : (object : List ℕ) (words : List (List ℕ)) → HasOwnEnds plain (with_script object words)
 own_script object [] = own_bad 2

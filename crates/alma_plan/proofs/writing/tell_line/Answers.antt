@@ -2,7 +2,7 @@ use Rattle.std.proofs.Common.{List, ℕ, refl, subst}
 use Rattle.alma_plan.specs.Plan.{ending_of}
 use Rattle.alma_plan.specs.Course.{Reports}
 use Rattle.alma_plan.proofs.RefusalLemmas.{stop_parts}
-use Rattle.alma_plan.proofs.refusal.refuse_with.Goals as goal
+use Rattle.alma_plan.proofs.writing.tell_line.Goals as goal
 
 pub returns : goal.returns
 returns g c =

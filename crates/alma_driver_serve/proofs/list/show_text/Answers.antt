@@ -3,7 +3,7 @@ use Rattle.std.specs.Prelude.{None}
 use Rattle.alma_driver_outcome.specs.Outcome.{Due, due_of}
 use Rattle.alma_driver_outcome.specs.declared.end.End.TheVariants.{Succeeded}
 use Rattle.alma_driver_outcome.proofs.CourseLemmas.{goes_cut, goes_whole}
-use Rattle.alma_driver_serve.proofs.list.write_text.Goals as goal
+use Rattle.alma_driver_serve.proofs.list.show_text.Goals as goal
 
 pub returns-in-Ok : goal.returns-in-Ok
 returns-in-Ok g c =

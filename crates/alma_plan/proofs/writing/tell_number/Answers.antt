@@ -2,7 +2,7 @@ use Rattle.std.proofs.Common.{◌∙◌, List, ℕ, subst}
 use Rattle.alma_plan.specs.Plan.{ending_of}
 use Rattle.alma_plan.specs.Course.{Reports}
 use Rattle.alma_plan.proofs.RefusalLemmas.{number_parts}
-use Rattle.alma_plan.proofs.refusal.refuse_number.Goals as goal
+use Rattle.alma_plan.proofs.writing.tell_number.Goals as goal
 
 pub returns : goal.returns
 returns g c =
