@@ -2,8 +2,8 @@
 // system.
 use alma_base::NoMemory;
 use alma_io::{
-    Failed, Fetch, Files, MemFiles, MemSink, MemSource, ReadAll, Sink, Source, StdFiles, StdSink,
-    StdSource, StoreFault, WriteFault, read_all, write_all,
+    Failed, Fetch, Files, MemFiles, MemSink, MemSource, ReadAll, Sink, SinkBuffer, Source, StdFiles,
+    StdSink, StdSource, StoreFault, WriteFault, read_all, write_all,
 };
 use std::alloc::{Alloc, Allocator, Global};
 use std::io::{ErrorKind, Read, Seek, SeekFrom, Write};
@@ -532,6 +532,41 @@ fn all_is_written_or_the_front_that_went_out(rt: HostRuntime) -> Result<(), Fail
     for (number, row) in WRITTEN_ROWS.iter().enumerate() {
         let found = write_row(rt.alloc(), row)?;
         assert_eq!(rt; found, (row.outcome, true), "row {number}");
+    }
+    Ok(())
+}
+
+// A text that a buffer has no room for.
+const LONG: [u8; 5_000] = [b'x'; 5_000];
+
+// Hands three pieces to a buffer; how many bytes the sink has behind each, and behind the flush.
+fn four_counts(buffer: &mut SinkBuffer, sink: &mut MemSink) -> Result<[usize; 4], Failed> {
+    buffer.write(b"ab", sink)?;
+    let first = sink.bytes().len();
+    buffer.write(&LONG, sink)?;
+    let second = sink.bytes().len();
+    buffer.write(b"cd", sink)?;
+    let third = sink.bytes().len();
+    buffer.flush(sink)?;
+    Ok([first, second, third, sink.bytes().len()])
+}
+
+// The same over a sink whose writes of these numbers fail.
+fn buffer_counts(alloc: Global, fails: &[u64]) -> Result<Result<[usize; 4], Failed>, NoMemory> {
+    let mut sink = MemSink::new(alloc, 6_000, 6_000, fails)?;
+    Ok(four_counts(&mut SinkBuffer::new(), &mut sink))
+}
+
+#[test]
+fn short_pieces_go_out_together(rt: HostRuntime) -> Result<(), Fail> {
+    let rows: [(u64, Result<[usize; 4], Failed>); 4] = [
+        (4, Ok([0, 5_002, 5_002, 5_004])),
+        (3, Err(Failed)),
+        (2, Err(Failed)),
+        (1, Err(Failed)),
+    ];
+    for (fault, want) in &rows {
+        assert_eq!(rt; buffer_counts(rt.alloc(), &[*fault])?, *want, "write {fault}");
     }
     Ok(())
 }

@@ -302,14 +302,14 @@ fn show(machine: &mut Machine<'_, '_>, out: &mut MemSink, print: &[u8]) -> Shown
     (end, counts, out.bytes() == print, machine.is_running())
 }
 
-// What a run of the code shows whose writes of these numbers fail.
+// What a run of the code shows whose writes, of three bytes each, fail at these numbers.
 fn run_of(
     alloc: Global,
     code: Verified<'_>,
     faults: &[u64],
     print: &[u8],
 ) -> Result<Shown, NoMemory> {
-    let mut out = MemSink::new(alloc, 99, 99, faults)?;
+    let mut out = MemSink::new(alloc, 99, 3, faults)?;
     let mut machine = Machine::new(alloc, code, b"")?;
     Ok(show(&mut machine, &mut out, print))
 }
@@ -392,8 +392,8 @@ fn steps_run_out_at_each_budget_below_the_whole(rt: HostRuntime) -> Result<(), F
     Ok(())
 }
 
-// What is printed before the write of a number fails.
-const WRITE_FAULTS: [(u64, &[u8]); 4] = [(1, b""), (2, b"1"), (3, b"12"), (4, b"123")];
+// What is printed before the write of a number fails: all prints go out together, in three writes.
+const WRITE_FAULTS: [(u64, &[u8]); 3] = [(1, b""), (2, b"123"), (3, b"123FAL")];
 
 #[test]
 fn a_write_fault_stops_the_machine(rt: HostRuntime) -> Result<(), Fail> {
@@ -404,6 +404,34 @@ fn a_write_fault_stops_the_machine(rt: HostRuntime) -> Result<(), Fail> {
             (RunEnd::WriteFault, true, false),
             "write {number}"
         );
+    }
+    Ok(())
+}
+
+// Prints a number, and then goes on for ever.
+const PRINT_AND_LOOP: [Instr; 3] = [
+    Instr::Const { to: 1, value: 7 },
+    Instr::WriteInt { value: 1 },
+    Instr::Jump { to: 2 },
+];
+
+// How a run of so many steps at most ends whose sink fails at once.
+fn run_to_fault(alloc: Global, code: Verified<'_>, budget: u64) -> Result<(RunEnd, u64), NoMemory>
+    requires { budget ≤ 9999 }
+{
+    let mut out = MemSink::new(alloc, 0, 9, &[])?;
+    let mut machine = Machine::new(alloc, code, b"")?;
+    let end = run_on(&mut machine, budget, &mut out);
+    Ok((end, machine.steps()))
+}
+
+#[test]
+fn a_print_is_out_4096_steps_later(rt: HostRuntime) -> Result<(), Fail> {
+    let object = object(rt.alloc(), &PRINT_AND_LOOP)?;
+    let code = opened(&object).ok_or("sound")?;
+    for budget in [2, 99, 4_096, 9_999] {
+        let found = run_to_fault(rt.alloc(), code, budget)?;
+        assert_eq!(rt; found, (RunEnd::WriteFault, budget.min(4_096)), "after {budget}");
     }
     Ok(())
 }
