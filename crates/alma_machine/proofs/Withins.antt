@@ -55,11 +55,11 @@ pub starves : (old new : MachineView) (m budget : ℕ) → Reached old new m →
 starves old new m budget h le ends shown = record {
   answer = tt;
   state = tt;
-  prints = tt;
+  all = tt;
   few = omega (arith, h.steps, le);
-  made = h.state;
+  reached = h.state;
   steps_out = tt;
-  printed = shown;
+  shown = shown;
   running = ends;
   same = h.same;
 }
@@ -70,11 +70,11 @@ pub fails_at : (old new : MachineView) (m budget : ℕ) → Reached old new m �
 fails_at old new m budget h le ends shown = record {
   answer = tt;
   state = tt;
-  prints = tt;
+  all = tt;
   few = omega (arith, h.steps, le);
-  made = h.state;
+  reached = h.state;
   steps_out = tt;
-  printed = shown;
+  shown = shown;
   running = ends;
   same = h.same;
 }
@@ -86,11 +86,11 @@ pub fails_behind : (old now new : MachineView) (budget : ℕ) (result : RunEnd) 
 fails_behind old now new budget result h stays stopped same = record {
   answer = tt;
   state = tt;
-  prints = tt;
+  all = tt;
   few = omega (arith, ap (λ (s : State). s.steps) stays, h.few);
-  made = stays ∙ h.made ∙ ap (λ k. after old.code old.input k old.state) (sym (made_still old now new stays));
+  reached = stays ∙ h.reached ∙ ap (λ k. after old.code old.input k old.state) (sym (made_still old now new stays));
   steps_out = tt;
-  printed = stopped.1;
+  shown = stopped.1;
   running = stopped.0;
   same = (same.0 ∙ h.same.0, same.1 ∙ h.same.1);
 }
@@ -102,14 +102,14 @@ at_end : (old new : MachineView) (budget : ℕ) (e : End) → end_of e ≡ run_e
     → new.state.steps ≤ old.state.steps + budget
     → new.printed ≡ last_print old.code old.input (made old new) old.state old.printed
     → new.running ≡ false → ((m : ℕ) × Reached old new m) → RunsWithin old new budget (end_of e)
-at_end old new budget end.Succeeded answer state prints few shown ends h = record {
-  answer = answer; state = state; prints = prints; few = few; made = h.1.state; steps_out = tt; printed = shown; running = ends; same = h.1.same;
+at_end old new budget end.Succeeded answer state all few shown ends h = record {
+  answer = answer; state = state; all = all; few = few; reached = h.1.state; steps_out = tt; shown = shown; running = ends; same = h.1.same;
 }
-at_end old new budget end.Failed answer state prints few shown ends h = record {
-  answer = answer; state = state; prints = prints; few = few; made = h.1.state; steps_out = tt; printed = shown; running = ends; same = h.1.same;
+at_end old new budget end.Failed answer state all few shown ends h = record {
+  answer = answer; state = state; all = all; few = few; reached = h.1.state; steps_out = tt; shown = shown; running = ends; same = h.1.same;
 }
-at_end old new budget (end.Fault fault) answer state prints few shown ends h = record {
-  answer = answer; state = state; prints = prints; few = few; made = h.1.state; steps_out = tt; printed = shown; running = ends; same = h.1.same;
+at_end old new budget (end.Fault fault) answer state all few shown ends h = record {
+  answer = answer; state = state; all = all; few = few; reached = h.1.state; steps_out = tt; shown = shown; running = ends; same = h.1.same;
 }
 
 -- the run ended with the step behind the first m
@@ -128,11 +128,11 @@ runs_out old new budget h goes live =
     record {
       answer = sym (ap (λ (s : State). run_end_of s.mode) (sym h.state) ∙ live);
       state = h.state;
-      prints = ap (λ k. prints old.code old.input k old.state) r.count;
+      all = ap (λ k. prints old.code old.input k old.state) r.count;
       few = omega (arith, h.steps);
-      made = r.state;
+      reached = r.state;
       steps_out = r.count;
-      printed = shows old new budget h;
+      shown = shows old new budget h;
       running = goes;
       same = r.same;
     }
