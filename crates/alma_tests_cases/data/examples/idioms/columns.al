@@ -16,18 +16,18 @@ PROCEDURE Spaces(count: INTEGER);
 VAR i: INTEGER;
 BEGIN FOR i := 1 TO count DO WRITE(" ") END END Spaces;
 
-PROCEDURE Signs(n: INTEGER): INTEGER;
-(* of how many signs n is, when it is written *)
+PROCEDURE Width(n: INTEGER): INTEGER;
+(* how many characters n has when it is written *)
 BEGIN
-  IF n < 0 THEN RETURN 1 + Signs(-n) ELSIF n < 10 THEN RETURN 1 ELSE RETURN 1 + Signs(n DIV 10) END
-END Signs;
+  IF n < 0 THEN RETURN 1 + Width(-n) ELSIF n < 10 THEN RETURN 1 ELSE RETURN 1 + Width(n DIV 10) END
+END Width;
 
 PROCEDURE Left;
 VAR i: INTEGER;
 BEGIN FOR i := 1 TO long DO WRITE(word[i]) END; Spaces(Most - long) END Left;
 
 PROCEDURE Right(n, wide: INTEGER);
-BEGIN Spaces(wide - Signs(n)); WRITE(n) END Right;
+BEGIN Spaces(wide - Width(n)); WRITE(n) END Right;
 
 BEGIN
   sum := 0;

@@ -9,7 +9,7 @@ BEGIN NOT (NOT (READ(c); c >= "0"; c <= "9")) END DigitIsNext;
 BEGIN
   WHILE NOT (NOT (READ(c))) DO
     IF DigitIsNext THEN READ(n); WRITELN("a number: ", n)
-    ELSE READ(c); IF c > " " THEN WRITELN("a sign: ", c) END
+    ELSE READ(c); IF c > " " THEN WRITELN("a character: ", c) END
     END
   END
 END LookAhead.

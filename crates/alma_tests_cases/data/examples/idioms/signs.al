@@ -1,9 +1,9 @@
 MODULE Signs;
-(* A condition that fails takes back what it has read. REPEAT keeps the sign that ends it. *)
+(* A condition that fails takes back what it has read. REPEAT keeps the character that ends it. *)
 VAR c: CHAR; count: INTEGER;
 
 PROCEDURE Next;
-(* c becomes the next sign that is no space *)
+(* c becomes the next character that is no space *)
 BEGIN REPEAT READ(c) UNTIL c <> " " END Next;
 
 BEGIN
