@@ -1,19 +1,22 @@
 -- How far a run came, and what its sink and its buffer hold then.
-use Rattle.std.proofs.Common.{◌≡◌, ◌≤◌, ◌<◌, ◌+◌, ◌-◌, ℕ, List, [], ◌++◌, refl, sym, ap, ◌∙◌, subst, arith}
-use Rattle.std.specs.Prelude.{true, false, Ok}
+use Rattle.std.proofs.Common.{◌≡◌, ◌≤◌, ◌<◌, ◌+◌, ◌-◌, ℕ, List, [], ◌++◌, refl, sym, ap, ◌∙◌, subst, arith, append_assoc}
+use Rattle.std.specs.Prelude.{Result, Ok, Err, OnOk, is_err, true, false}
 use Rattle.std.specs.Io.KnownBytes.{Appends}
 use Rattle.alma_code.specs.declared.step.End.{End}
 use Rattle.alma_code.specs.declared.step.End.TheVariants as end
+use Rattle.alma_code.specs.declared.step.Step.{Step}
 use Rattle.alma_code.specs.Machine.{State, after, prints}
+use Rattle.alma_io.proofs.BufferLemmas.{buffers_then, fails_last, gains_last, none_held}
+use Rattle.alma_io.proofs.PartLemmas.{fails_of, gains_of}
 use Rattle.alma_io.specs.Buffer.{GainsBut, Buffers}
 use Rattle.alma_io.specs.Causes.{HasCause}
 use Rattle.alma_io.specs.Fronts.{AppendsFront}
-use Rattle.alma_io.specs.Outside.{Gains, FailsWithin}
+use Rattle.alma_io.specs.Outside.{Gains, FailsWithin, Writes}
 use Rattle.alma_io.specs.Sides.{SinkSide}
 use Rattle.alma_machine.specs.declared.machine.RunEnd.{RunEnd}
 use Rattle.alma_machine.specs.declared.machine.RunEnd.TheVariants as run
 use Rattle.alma_machine.specs.Runs.{OnWhole, OnWriteFault, OnMemory, all_written, end_of, last_print, made, run_end_of}
-use Rattle.alma_machine.specs.View.{MachineView}
+use Rattle.alma_machine.specs.View.{MachineView, runs_after}
 use Rattle.alma_machine.specs.Within.{RunsWithin}
 use Rattle.alma_machine.proofs.Budget.{Progress, Finished, made_is, shows}
 
@@ -48,6 +51,11 @@ reached_still old now new m h stays same = record {
   steps = ap (λ (s : State). s.steps) stays ∙ h.steps;
   same = (same.0 ∙ h.same.0, same.1 ∙ h.same.1);
 }
+
+-- a machine stops where a step is refused
+pub err_stops : {E : Type 0} (result : Result Step E) → is_err result ≡ true → runs_after result ≡ false
+err_stops (Ok step) e = absurd (cc)
+err_stops (Err fault) e = refl
 
 -- memory was wanted
 pub starves : (old new : MachineView) (m budget : ℕ) → Reached old new m → m ≤ budget → new.running ≡ false → new.printed ≡ []
@@ -139,6 +147,20 @@ runs_out old new budget h goes live =
 
 -- ---- what the sink and the buffer hold
 
+-- what waited goes out
+pub flushed : {T E : Type 0} (r : Result T E) (a b c : SinkSide) (bytes held left : List ℕ) → GainsBut a b bytes held
+    → Writes b c held r → OnOk r (left ≡ []) → Buffers a c bytes left r
+flushed (Ok v) a b c bytes held left h w none =
+    subst (λ (kept : List ℕ). GainsBut a c bytes kept) (sym none) (none_held a c bytes (gains_last a b c bytes held h w))
+flushed (Err fault) a b c bytes held left h w none = fails_last a b c bytes held h w
+
+-- one more print goes through the buffer
+pub buffered_more : {T E : Type 0} (r : Result T E) (a b c : SinkSide) (front xs ys zs held left : List ℕ)
+    → GainsBut a b (front ++ xs) held → Buffers b c (held ++ ys) left r → zs ≡ xs ++ ys → Buffers a c (front ++ zs) left r
+buffered_more r a b c front xs ys zs held left h k e =
+    subst (λ (bytes : List ℕ). Buffers a c bytes left r) (append_assoc front xs ys ∙ ap (λ z. front ++ z) (sym e))
+    (buffers_then r a b c (front ++ xs) held ys left h k)
+
 -- at an end of the run
 pub gained_end : (e : End) (a b : SinkSide) (bytes held : List ℕ) → GainsBut a b bytes held → Buffers a b bytes held (all_written (end_of e))
 gained_end end.Succeeded a b bytes held h = h
@@ -146,7 +168,7 @@ gained_end end.Failed a b bytes held h = h
 gained_end (end.Fault fault) a b bytes held h = h
 
 -- where the sink did not fail
-pub gained_at : (result : RunEnd) (a b : SinkSide) (bytes held : List ℕ) → (result ≡ run.WriteFault → ⊥)
+gained_at : (result : RunEnd) (a b : SinkSide) (bytes held : List ℕ) → (result ≡ run.WriteFault → ⊥)
     → Buffers a b bytes held (all_written result) → GainsBut a b bytes held
 gained_at run.Succeeded a b bytes held whole h = h
 gained_at run.Failed a b bytes held whole h = h
@@ -163,7 +185,7 @@ pub record RunWrites (a b : SinkSide) (printed all : List ℕ) (result : RunEnd)
   pub cause : HasCause a.faults b.faults (all_written result)
 
 -- it failed within them
-pub writes_fail : (a b : SinkSide) (printed all : List ℕ) → FailsWithin a b printed → RunWrites a b printed all run.WriteFault
+writes_fail : (a b : SinkSide) (printed all : List ℕ) → FailsWithin a b printed → RunWrites a b printed all run.WriteFault
 writes_fail a b printed all h = record {
   out = tt;
   memory = tt;
@@ -176,7 +198,7 @@ no_cause : (a b : ℕ) → b ≡ a → HasCause {T = Unit {0}} {E = Unit {0}} a 
 no_cause a b e = record { later = omega (arith, e); ok = e; err = tt }
 
 -- it took them
-pub writes_all : (result : RunEnd) (a b : SinkSide) (printed all : List ℕ) → (result ≡ run.WriteFault → ⊥) → Gains a b printed
+writes_all : (result : RunEnd) (a b : SinkSide) (printed all : List ℕ) → (result ≡ run.WriteFault → ⊥) → Gains a b printed
     → OnWhole result (printed ≡ all) → RunWrites a b printed all result
 writes_all result a b printed all quiet h = by result quiet
   where
@@ -190,3 +212,34 @@ writes_all result a b printed all quiet h = by result quiet
     by run.StepsOut quiet e = record { out = to e; memory = tt; write_fault = tt; cause = no_cause a.faults b.faults h.quiet }
     by run.Memory quiet e = record { out = tt; memory = h.bytes_are; write_fault = tt; cause = no_cause a.faults b.faults h.quiet }
     by run.WriteFault quiet e = absurd (quiet refl)
+
+-- a run through a buffer that was empty at first: the sink failed in it
+pub failed_in : (result : RunEnd) (a b : SinkSide) (first printed all held : List ℕ) → result ≡ run.WriteFault → first ≡ []
+    → Buffers a b (first ++ printed) held (all_written result) → RunWrites a b printed all result
+failed_in run.WriteFault a b first printed all held is none h =
+    writes_fail a b printed all (subst (λ (bytes : List ℕ). FailsWithin a b (bytes ++ printed)) none h)
+failed_in run.Succeeded a b first printed all held is none h = cc is
+failed_in run.Failed a b first printed all held is none h = cc is
+failed_in (run.Fault fault) a b first printed all held is none h = cc is
+failed_in run.StepsOut a b first printed all held is none h = cc is
+failed_in run.Memory a b first printed all held is none h = cc is
+
+-- it failed in the flush behind it
+pub failed_behind : {T E : Type 0} (r : Result T E) (result : RunEnd) (a b c : SinkSide) (first printed all held : List ℕ)
+    → (result ≡ run.WriteFault → ⊥) → first ≡ []
+    → Buffers a b (first ++ printed) held (all_written result) → is_err r ≡ true → Writes b c held r
+    → RunWrites a c printed all run.WriteFault
+failed_behind r result a b c first printed all held quiet none h failed w =
+    writes_fail a c printed all (fails_last a b c printed held
+    (subst (λ (bytes : List ℕ). GainsBut a b (bytes ++ printed) held) none (gained_at result a b (first ++ printed) held quiet h))
+    (fails_of r b c held failed w))
+
+-- it took all
+pub gained_behind : {T E : Type 0} (r : Result T E) (result : RunEnd) (a b c : SinkSide) (first printed all held : List ℕ)
+    → (result ≡ run.WriteFault → ⊥) → first ≡ []
+    → Buffers a b (first ++ printed) held (all_written result) → is_err r ≡ false → Writes b c held r → OnWhole result (printed ≡ all)
+    → RunWrites a c printed all result
+gained_behind r result a b c first printed all held quiet none h written w whole =
+    writes_all result a c printed all quiet (gains_last a b c printed held
+    (subst (λ (bytes : List ℕ). GainsBut a b (bytes ++ printed) held) none (gained_at result a b (first ++ printed) held quiet h))
+    (gains_of r b c held written w)) whole
