@@ -441,13 +441,14 @@ impl<'b, 'i> Machine<'b, 'i> {
         let mut made = 0;
         while made < budget {
             let quick = self.dash(until_flush(made, budget));
+            made += quick;
             let Ok(step) = self.step() else {
                 return RunEnd::Memory;
             };
             if let Step::Done(end) = step {
                 return RunEnd::from(end);
             }
-            made += quick + 1;
+            made += 1;
             if write_through(step, self.printed(), made, buffer, out).is_err() {
                 self.stop();
                 return RunEnd::WriteFault;

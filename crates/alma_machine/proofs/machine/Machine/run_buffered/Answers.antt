@@ -4,6 +4,7 @@ use Rattle.alma_code.specs.Machine.{prints}
 use Rattle.alma_io.specs.Buffer.{GainsBut}
 use Rattle.alma_io.proofs.BufferLemmas.{failed_of, gained_of}
 use Rattle.alma_machine.specs.Runs.{made}
+use Rattle.alma_machine.specs.View.{goes_on}
 use Rattle.alma_machine.proofs.Dashing.{progress_dash, prints_dash}
 use Rattle.alma_machine.proofs.Budget.{progress_more, prints_then, made_is, finished, goes_unless, on_err}
 use Rattle.alma_machine.proofs.Withins.{reached, reached_still, starves, fails_at, ends_at, buffered_more, gained_end, err_stops}
@@ -56,7 +57,8 @@ returns-in-Done-clause-far g c =
     let lt : m < c.args.budget = omega (arith, d.ensures.few, c.until_flush.ensures) in
     let h = finished old d.new.self c.step.new.self m c.args.budget c.in-Ok.step c.in-Done.end now p c.in-Ok.ensures.step c.in-Done.is
     c.in-Ok.ensures.mode c.in-Ok.ensures.quiet lt in
-    rw c.from.ensures (ends_at old c.step.new.self m c.args.budget c.in-Done.end p h lt c.in-Ok.ensures.running)
+    rw c.from.ensures (ends_at old c.step.new.self m c.args.budget c.in-Done.end p h lt
+    (c.in-Ok.ensures.running ∙ ap goes_on c.in-Done.is))
 
 pub returns-in-Done-clause-out : goal.returns-in-Done-clause-out
 returns-in-Done-clause-out g c =
