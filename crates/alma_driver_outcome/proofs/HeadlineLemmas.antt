@@ -218,9 +218,11 @@ run_ends words source input steps stats before after status a c u =
 -- a result is shown for each level that is not cut off
 shows_level : (words : List (List ℕ)) (p : Program) (input : List ℕ) (steps level : ℕ) (stats : Bool) (before after : Outside) (status : ℕ)
     → (end_of (first (ev_program level p input)) ≡ CutOff → ⊥)
-    → ShowsResult words stats (result (suc steps) p input) before after status → ShowsResult words stats (result level p input) before after status
+    → ShowsResult words stats (result (suc steps) p input) before after status
+    → ShowsResult words stats (result level p input) before after status
 shows_level words p input steps level stats before after status uncut h =
-    subst (λ (m : List ℕ × events.End). ShowsResult words stats m before after status) (same_result p input (suc steps) level h.uncut uncut) h
+    subst (λ (m : List ℕ × events.End). ShowsResult words stats m before after status) (same_result p input (suc steps) level h.uncut uncut)
+    h
 
 -- where the steps are enough the result is shown
 pub enough_steps : (words : List (List ℕ)) (source input : List ℕ) (steps : ℕ) (stats : Bool) (before after : Outside) (status : ℕ)
@@ -237,7 +239,8 @@ enough_steps words source input steps stats before after status p level a c u is
     by (too_large q isq big shown) = absurd (omega (arith, size, big, ap size_of (one_program source q p isq is)))
     by (ended q isq small_q h) =
         shows_level words p input steps level stats before after status uncut
-        (subst (λ (r : Program). ShowsResult words stats (result (suc steps) r input) before after status) (one_program source q p isq is) h)
+        (subst (λ (r : Program). ShowsResult words stats (result (suc steps) r input) before after status) (one_program source q p isq is)
+        h)
     by (ran_out q isq small_q f) =
         let few = subst (λ (r : Program). MayRunOut r input steps) (one_program source q p isq is) f.few in
         absurd (omega (arith, few level uncut, many))

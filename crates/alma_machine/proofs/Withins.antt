@@ -1,21 +1,18 @@
 -- How far a run came, and what its sink and its buffer hold then.
 use Rattle.std.proofs.Common.{◌≡◌, ◌≤◌, ◌<◌, ◌+◌, ◌-◌, ℕ, List, [], ◌++◌, refl, sym, ap, ◌∙◌, subst, arith, append_assoc}
 use Rattle.std.specs.Prelude.{Result, Ok, Err, OnOk, is_err, true, false}
-use Rattle.std.specs.Io.KnownBytes.{Appends}
 use Rattle.alma_code.specs.declared.step.End.{End}
 use Rattle.alma_code.specs.declared.step.End.TheVariants as end
 use Rattle.alma_code.specs.declared.step.Step.{Step}
 use Rattle.alma_code.specs.Machine.{State, after, prints}
 use Rattle.alma_io.proofs.BufferLemmas.{buffers_then, fails_last, gains_last, none_held}
-use Rattle.alma_io.proofs.PartLemmas.{fails_of, gains_of}
+use Rattle.alma_io.proofs.PartLemmas.{fails_of}
 use Rattle.alma_io.specs.Buffer.{GainsBut, Buffers}
-use Rattle.alma_io.specs.Causes.{HasCause}
-use Rattle.alma_io.specs.Fronts.{AppendsFront}
-use Rattle.alma_io.specs.Outside.{Gains, FailsWithin, Writes}
+use Rattle.alma_io.specs.Outside.{FailsWithin, Writes}
 use Rattle.alma_io.specs.Sides.{SinkSide}
 use Rattle.alma_machine.specs.declared.machine.RunEnd.{RunEnd}
 use Rattle.alma_machine.specs.declared.machine.RunEnd.TheVariants as run
-use Rattle.alma_machine.specs.Runs.{OnWhole, OnWriteFault, OnMemory, all_written, end_of, last_print, made, run_end_of}
+use Rattle.alma_machine.specs.Runs.{all_written, end_of, last_print, made, run_end_of}
 use Rattle.alma_machine.specs.View.{MachineView, runs_after}
 use Rattle.alma_machine.specs.Within.{RunsWithin}
 use Rattle.alma_machine.proofs.Budget.{Progress, Finished, made_is, shows}
@@ -39,7 +36,7 @@ reached old new m h = record {
 }
 
 -- the same steps were made where the state stays
-made_still : (old now new : MachineView) → new.state ≡ now.state → made old new ≡ made old now
+pub made_still : (old now new : MachineView) → new.state ≡ now.state → made old new ≡ made old now
 made_still old now new stays = ap (λ (s : State). s.steps - old.state.steps) stays
 
 -- and it is there still
@@ -111,13 +108,37 @@ at_end : (old new : MachineView) (budget : ℕ) (e : End) → end_of e ≡ run_e
     → new.printed ≡ last_print old.code old.input (made old new) old.state old.printed
     → new.running ≡ false → ((m : ℕ) × Reached old new m) → RunsWithin old new budget (end_of e)
 at_end old new budget end.Succeeded answer state all few shown ends h = record {
-  answer = answer; state = state; all = all; few = few; reached = h.1.state; steps_out = tt; shown = shown; running = ends; same = h.1.same;
+  answer = answer;
+  state = state;
+  all = all;
+  few = few;
+  reached = h.1.state;
+  steps_out = tt;
+  shown = shown;
+  running = ends;
+  same = h.1.same;
 }
 at_end old new budget end.Failed answer state all few shown ends h = record {
-  answer = answer; state = state; all = all; few = few; reached = h.1.state; steps_out = tt; shown = shown; running = ends; same = h.1.same;
+  answer = answer;
+  state = state;
+  all = all;
+  few = few;
+  reached = h.1.state;
+  steps_out = tt;
+  shown = shown;
+  running = ends;
+  same = h.1.same;
 }
 at_end old new budget (end.Fault fault) answer state all few shown ends h = record {
-  answer = answer; state = state; all = all; few = few; reached = h.1.state; steps_out = tt; shown = shown; running = ends; same = h.1.same;
+  answer = answer;
+  state = state;
+  all = all;
+  few = few;
+  reached = h.1.state;
+  steps_out = tt;
+  shown = shown;
+  running = ends;
+  same = h.1.same;
 }
 
 -- the run ended with the step behind the first m
@@ -162,7 +183,8 @@ buffered_more r a b c front xs ys zs held left h k e =
     (buffers_then r a b c (front ++ xs) held ys left h k)
 
 -- at an end of the run
-pub gained_end : (e : End) (a b : SinkSide) (bytes held : List ℕ) → GainsBut a b bytes held → Buffers a b bytes held (all_written (end_of e))
+pub gained_end : (e : End) (a b : SinkSide) (bytes held : List ℕ) → GainsBut a b bytes held
+    → Buffers a b bytes held (all_written (end_of e))
 gained_end end.Succeeded a b bytes held h = h
 gained_end end.Failed a b bytes held h = h
 gained_end (end.Fault fault) a b bytes held h = h
@@ -177,69 +199,11 @@ gained_at run.StepsOut a b bytes held whole h = h
 gained_at run.Memory a b bytes held whole h = h
 gained_at run.WriteFault a b bytes held whole h = absurd (whole refl)
 
--- what the sink gained of the prints, with this answer: of those that were made, and of all
-pub record RunWrites (a b : SinkSide) (printed all : List ℕ) (result : RunEnd) : Type 0 where
-  pub out : OnWhole result (Appends a.written b.written all)
-  pub memory : OnMemory result (Appends a.written b.written printed)
-  pub write_fault : OnWriteFault result (AppendsFront a.written b.written printed)
-  pub cause : HasCause a.faults b.faults (all_written result)
-
--- it failed within them
-writes_fail : (a b : SinkSide) (printed all : List ℕ) → FailsWithin a b printed → RunWrites a b printed all run.WriteFault
-writes_fail a b printed all h = record {
-  out = tt;
-  memory = tt;
-  write_fault = h.front;
-  cause = record { later = h.risen.0; ok = tt; err = h.risen.1 };
-}
-
--- a count that stays has no cause
-no_cause : (a b : ℕ) → b ≡ a → HasCause {T = Unit {0}} {E = Unit {0}} a b (Ok tt)
-no_cause a b e = record { later = omega (arith, e); ok = e; err = tt }
-
--- it took them
-writes_all : (result : RunEnd) (a b : SinkSide) (printed all : List ℕ) → (result ≡ run.WriteFault → ⊥) → Gains a b printed
-    → OnWhole result (printed ≡ all) → RunWrites a b printed all result
-writes_all result a b printed all quiet h = by result quiet
-  where
-    to : printed ≡ all → Appends a.written b.written all
-    to e = subst (λ (bytes : List ℕ). Appends a.written b.written bytes) e h.bytes_are
-
-    by : (result : RunEnd) → (result ≡ run.WriteFault → ⊥) → OnWhole result (printed ≡ all) → RunWrites a b printed all result
-    by run.Succeeded quiet e = record { out = to e; memory = tt; write_fault = tt; cause = no_cause a.faults b.faults h.quiet }
-    by run.Failed quiet e = record { out = to e; memory = tt; write_fault = tt; cause = no_cause a.faults b.faults h.quiet }
-    by (run.Fault fault) quiet e = record { out = to e; memory = tt; write_fault = tt; cause = no_cause a.faults b.faults h.quiet }
-    by run.StepsOut quiet e = record { out = to e; memory = tt; write_fault = tt; cause = no_cause a.faults b.faults h.quiet }
-    by run.Memory quiet e = record { out = tt; memory = h.bytes_are; write_fault = tt; cause = no_cause a.faults b.faults h.quiet }
-    by run.WriteFault quiet e = absurd (quiet refl)
-
--- a run through a buffer that was empty at first: the sink failed in it
-pub failed_in : (result : RunEnd) (a b : SinkSide) (first printed all held : List ℕ) → result ≡ run.WriteFault → first ≡ []
-    → Buffers a b (first ++ printed) held (all_written result) → RunWrites a b printed all result
-failed_in run.WriteFault a b first printed all held is none h =
-    writes_fail a b printed all (subst (λ (bytes : List ℕ). FailsWithin a b (bytes ++ printed)) none h)
-failed_in run.Succeeded a b first printed all held is none h = cc is
-failed_in run.Failed a b first printed all held is none h = cc is
-failed_in (run.Fault fault) a b first printed all held is none h = cc is
-failed_in run.StepsOut a b first printed all held is none h = cc is
-failed_in run.Memory a b first printed all held is none h = cc is
-
--- it failed in the flush behind it
-pub failed_behind : {T E : Type 0} (r : Result T E) (result : RunEnd) (a b c : SinkSide) (first printed all held : List ℕ)
-    → (result ≡ run.WriteFault → ⊥) → first ≡ []
-    → Buffers a b (first ++ printed) held (all_written result) → is_err r ≡ true → Writes b c held r
-    → RunWrites a c printed all run.WriteFault
-failed_behind r result a b c first printed all held quiet none h failed w =
-    writes_fail a c printed all (fails_last a b c printed held
+-- the sink failed in the flush behind a run through a buffer that was empty at first
+pub failed_behind : {T E : Type 0} (r : Result T E) (result : RunEnd) (a b c : SinkSide) (first printed held : List ℕ)
+    → (result ≡ run.WriteFault → ⊥) → first ≡ [] → Buffers a b (first ++ printed) held (all_written result)
+    → is_err r ≡ true → Writes b c held r → FailsWithin a c printed
+failed_behind r result a b c first printed held quiet none h failed w =
+    fails_last a b c printed held
     (subst (λ (bytes : List ℕ). GainsBut a b (bytes ++ printed) held) none (gained_at result a b (first ++ printed) held quiet h))
-    (fails_of r b c held failed w))
-
--- it took all
-pub gained_behind : {T E : Type 0} (r : Result T E) (result : RunEnd) (a b c : SinkSide) (first printed all held : List ℕ)
-    → (result ≡ run.WriteFault → ⊥) → first ≡ []
-    → Buffers a b (first ++ printed) held (all_written result) → is_err r ≡ false → Writes b c held r → OnWhole result (printed ≡ all)
-    → RunWrites a c printed all result
-gained_behind r result a b c first printed all held quiet none h written w whole =
-    writes_all result a c printed all quiet (gains_last a b c printed held
-    (subst (λ (bytes : List ℕ). GainsBut a b (bytes ++ printed) held) none (gained_at result a b (first ++ printed) held quiet h))
-    (gains_of r b c held written w)) whole
+    (fails_of r b c held failed w)

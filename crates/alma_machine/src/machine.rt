@@ -425,12 +425,7 @@ impl<'b, 'i> Machine<'b, 'i> {
     }
 
     // The run, through a buffer.
-    fn run_buffered<K: Sink>(
-        &mut self,
-        budget: u64,
-        buffer: &mut SinkBuffer,
-        out: &mut K,
-    ) -> RunEnd
+    fn run_buffered<K: Sink>(&mut self, budget: u64, buffer: &mut SinkBuffer, out: &mut K) -> RunEnd
         requires running { IsTrue self.old.running }
         requires few { self.old.state.steps + budget < 2 ^ 63 }
         ensures far { RunsWithin self.old self.new budget result }

@@ -2,8 +2,8 @@
 // system.
 use alma_base::NoMemory;
 use alma_io::{
-    Failed, Fetch, Files, MemFiles, MemSink, MemSource, ReadAll, Sink, SinkBuffer, Source, StdFiles,
-    StdSink, StdSource, StoreFault, WriteFault, read_all, write_all,
+    Failed, Fetch, Files, MemFiles, MemSink, MemSource, ReadAll, Sink, SinkBuffer, Source,
+    StdFiles, StdSink, StdSource, StoreFault, WriteFault, read_all, write_all,
 };
 use std::alloc::{Alloc, Allocator, Global};
 use std::io::{ErrorKind, Read, Seek, SeekFrom, Write};
@@ -566,7 +566,11 @@ fn short_pieces_go_out_together(rt: HostRuntime) -> Result<(), Fail> {
         (1, Err(Failed)),
     ];
     for (fault, want) in &rows {
-        assert_eq!(rt; buffer_counts(rt.alloc(), &[*fault])?, *want, "write {fault}");
+        assert_eq!(rt;
+            buffer_counts(rt.alloc(), &[*fault])?,
+            *want,
+            "write {fault}"
+        );
     }
     Ok(())
 }

@@ -431,7 +431,11 @@ fn a_print_is_out_4096_steps_later(rt: HostRuntime) -> Result<(), Fail> {
     let code = opened(&object).ok_or("sound")?;
     for budget in [2, 99, 4_096, 9_999] {
         let found = run_to_fault(rt.alloc(), code, budget)?;
-        assert_eq!(rt; found, (RunEnd::WriteFault, budget.min(4_096)), "after {budget}");
+        assert_eq!(rt;
+            found,
+            (RunEnd::WriteFault, budget.min(4_096)),
+            "after {budget}"
+        );
     }
     Ok(())
 }

@@ -31,7 +31,7 @@ returns-in-Err-clause-front g c =
     let p = progress_more old c.loop-made.machine new m a c.loop-made.invariant.progress c.in-Ok.ensures.step c.in-Ok.ensures.counted
     c.in-Ok.ensures.same in
     let front = subst (λ (code : PlainCode). AppendsFront (g.K.Sink.side c.loop-made.out).written
-        (g.K.Sink.side c.write_step.new.out).written
+    (g.K.Sink.side c.write_step.new.out).written
     (step_text code watches a new.printed new.state)) p.code c.in-Err.ensures.front in
     let whole = within_then old c.loop-made.machine new watches m c.args.budget a c.loop-made.invariant.front c.loop-made.invariant.progress
     p c.in-Ok.ensures.step in
@@ -39,7 +39,7 @@ returns-in-Err-clause-front g c =
     (traced_within old.code old.input watches (made old new) c.args.budget old.state))
     c.in-Err.ensures.cut
     (front_behind (g.K.Sink.side c.args.out.now).written (g.K.Sink.side c.loop-made.out).written
-        (g.K.Sink.side c.write_step.new.out).written
+    (g.K.Sink.side c.write_step.new.out).written
     (text_of old watches m) (step_text old.code watches a new.printed new.state)
     (flat_map text_line (unless_done a (λ _. end_within (m + 1) c.args.budget)))
     (traced_within old.code old.input watches (made old new) c.args.budget old.state)
@@ -154,7 +154,7 @@ returns-clause-out g c =
     let m = c.loop-made.made in
     let all : c.loop-made.made ≡ c.args.budget = omega (arith, c.loop-made.invariant.within, c.loop-made-test.false) in
     out_more (g.K.Sink.side c.args.out.now).written (g.K.Sink.side c.loop-made.out).written
-        (g.K.Sink.side c.write_steps_end.new.out).written
+    (g.K.Sink.side c.write_steps_end.new.out).written
     (text_of old watches m) (flat_map text_line steps_end)
     (text_of_run old.code old.input watches c.args.budget old.state) c.loop-made.invariant.out c.in_default-write_steps_end.ensures.ok
     (ap (λ n. text_of_run old.code old.input watches n old.state) (sym all) ∙ text_out old watches m c.loop-made.invariant.front)

@@ -1,4 +1,4 @@
-use Rattle.std.proofs.Common.{rules, [], ◌≡◌, ◌≤◌, ◌<◌, ◌+◌, ◌++◌, List, ℕ, ap, sym, ◌∙◌, subst, arith, true, false}
+use Rattle.std.proofs.Common.{rules, [], ◌≡◌, ◌<◌, ◌+◌, ◌++◌, List, ℕ, ap, sym, ◌∙◌, subst, arith, true, false}
 use Rattle.std.specs.Prelude.{is_err}
 use Rattle.alma_code.specs.Machine.{prints}
 use Rattle.alma_io.specs.Buffer.{GainsBut}
