@@ -100,7 +100,7 @@ call_lists words file source input steps before after status asks causes calm =
     let causes' = subst (λ (plan : Plan Verdict Last). Causes all_sense program plan before after status)
     (plan_is words file steps asks.asks) causes in
     let due = call_shows_due all_sense program (file_plan file steps) before after status causes' calm
-    (lacks_none before.files.told file source steps asks.told) in
-    source_ends file source input steps before after status asks.source_short asks.left asks.input_short due.0 due.1 due.3
-    (source_comes program success before.files.told before.input.left due.0 due.1 file source (λ p. list_plan p steps) asks.told
-    asks.source_short due.2)
+    (lacks_none before.files.told file source steps asks.given.told) in
+    source_ends file source input steps before after status asks.given.source_short asks.given.left asks.given.input_short due.0 due.1 due.3
+    (source_comes program success before.files.told before.input.left due.0 due.1 file source (λ p. list_plan p steps) asks.given.told
+    asks.given.source_short due.2)

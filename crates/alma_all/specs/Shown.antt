@@ -1,12 +1,10 @@
 -- What a call shows of the alternatives of a program, in the words of a reader of its meaning.
-use Rattle.std.specs.Prelude.{◌≡◌, ◌<◌, ◌≤◌, ◌+◌, ◌*◌, ◌/◌, ℕ, suc, true, false, List, [], ◌∷◌, length, Some}
-use Rattle.alma_base.specs.Limits.{input_limit, size_limit, source_limit}
+use Rattle.std.specs.Prelude.{◌≡◌, ◌<◌, ◌≤◌, ◌+◌, ◌*◌, ◌/◌, ℕ, suc, true, false, List, [], ◌∷◌, length}
+use Rattle.alma_base.specs.Limits.{input_limit, size_limit}
 use Rattle.alma_driver_words.specs.Words.{IsSetting, Steps, default_steps, is_file_name}
-use Rattle.alma_io.specs.Files.{Has}
 use Rattle.alma_ir.specs.Checked.{IsChecked, HaveNoReturn}
 use Rattle.alma_ir.specs.Tree.{Program, routine_at}
 use Rattle.alma_lower_implements.specs.Implements.{Covers, visit_steps}
-use Rattle.alma_lower_sound.specs.Reads.{program_reads}
 use Rattle.alma_mean.specs.Events.{End, CutOff, first, visit_count}
 use Rattle.alma_mean.specs.Laws.{IsPrefix, ends_in_cut}
 use Rattle.alma_mean.specs.Meaning.{ev_program}
@@ -16,7 +14,7 @@ use Rattle.alma_io.specs.Outside.{Outside}
 use Rattle.alma_plan.specs.Plan.{Due, Ending, silent, steps_out, success}
 use Rattle.alma_plan.specs.Meant.{meant_ending}
 use Rattle.alma_plan.specs.Programs.{Runs, refuse_source, too_much_code}
-use Rattle.alma_plan.specs.Undisturbed.{ShowsDue}
+use Rattle.alma_plan.specs.Undisturbed.{GivesSource, ShowsDue}
 use Rattle.alma_run_laws.specs.Shown.{size_of}
 use Rattle.alma_source.specs.Refusal.{IsProgramOf, IsOnlyFault, place_of}
 use Rattle.alma_source.specs.declared.fault.SourceFault.{SourceFault}
@@ -66,13 +64,10 @@ pub data AsksToList (words : List (List ℕ)) (file : List ℕ) (steps : ℕ) : 
 abbrev pub IsRequest : (words : List (List ℕ)) → Type 0
 IsRequest words = (file : List ℕ) × (steps : ℕ) × AsksToList words file steps
 
--- that file has this source, and where its program reads, this input is left; both are within their lengths
+-- they do so of a file that has this source, and where its program reads, this input is left
 pub record ListsSource (words : List (List ℕ)) (before : Outside) (file source input : List ℕ) (steps : ℕ) : Type 0 where
   pub asks : AsksToList words file steps
-  pub told : before.files.told file ≡ Has source
-  pub source_short : length source ≤ source_limit
-  pub left : (p : Program) → IsProgramOf source p → program_reads p ≡ true → before.input.left ≡ Some input
-  pub input_short : length input ≤ input_limit
+  pub given : GivesSource before file source input
 
 -- What such a call shows, where nothing fails.
 pub data ListEnds (file source input : List ℕ) (steps : ℕ) (before after : Outside) (status : ℕ) : Type 0 where

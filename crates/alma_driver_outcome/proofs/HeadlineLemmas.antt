@@ -139,7 +139,7 @@ module _ (words : List (List ℕ)) (source input : List ℕ) (steps : ℕ) (stat
       → SourceOutcome source (λ p. ProgramOutcome before.input.left p steps (Prints stats)) due
       → RunEnds words source input steps stats before after status
   ends_of due a h (stopped end r e) = ends_refused due end e h r
-  ends_of due a h (compiled p is o) = ends_program p due (a.left p is) a.input_short is h o
+  ends_of due a h (compiled p is o) = ends_program p due (a.given.left p is) a.given.input_short is h o
 
 -- ---- what the words ask
 
@@ -169,7 +169,7 @@ pub words_run : (words : List (List ℕ)) (before : Outside) (source input : Lis
 words_run words before source input steps stats due a (bad_word k bad e) = absurd (bad.none (Run a.name steps stats, a.asks))
 words_run words before source input steps stats due a (asks r h o) =
     let same : r ≡ Run a.name steps stats = one_request words r (Run a.name steps stats) h a.asks in
-    source_run before.files.told a.name source steps stats before.input.left due a.told a.source_short
+    source_run before.files.told a.name source steps stats before.input.left due a.given.told a.given.source_short
     (subst (λ (q : Request). RequestOutcome before.files.told before.input.left q due) same o)
 
 -- its file is not missing
@@ -180,7 +180,7 @@ not_lacking words before source input steps stats a l =
     let same : l.0 ≡ Run a.name steps stats = one_request words l.0 (Run a.name steps stats) l.2 a.asks in
     let name : Some a.name ≡ Some l.1 = sym (ap read_by same) ∙ l.3 in
     let one : a.name ≡ l.1 = cc name in
-    cc (sym a.told ∙ ap before.files.told one ∙ l.4)
+    cc (sym a.given.told ∙ ap before.files.told one ∙ l.4)
 
 -- ---- the headline
 

@@ -52,13 +52,13 @@ input_left words source input steps stats before after due p a o takes is small 
         (all_read input all.0.0 before.input.left after.input.left (told q) all.0.1 all.0.2)
     by_input code told (past_input q more e) =
         let past : MayHaveMore (Some input) input_limit = subst (λ (o : Option (List ℕ)). MayHaveMore o input_limit) (told q) more in
-        absurd (omega (arith, a.input_short, past))
+        absurd (omega (arith, a.given.input_short, past))
 
     by_program : (q : Program) → IsProgramOf source q → ProgramOutcome before.input.left q steps (Prints stats) due
         → IsInputLeft (program_reads q) before.input after.input
     by_program q isq (ran code size is_code o) =
         subst (λ (r : Bool). IsInputLeft r before.input after.input) is_code.reads
-        (by_input code (λ r. a.left q isq (sym is_code.reads ∙ r)) o)
+        (by_input code (λ r. a.given.left q isq (sym is_code.reads ∙ r)) o)
     by_program q isq (too_much_code size e) = absurd (omega (arith, size, small, ap size_of (one_program source q p isq is)))
 
     by_source : SourceOutcome source (λ q. ProgramOutcome before.input.left q steps (Prints stats)) due

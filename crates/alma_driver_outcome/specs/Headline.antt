@@ -1,16 +1,14 @@
 -- What a run of a source comes to, in the words of a reader of its meaning.
-use Rattle.std.specs.Prelude.{◌≡◌, ◌<◌, ◌≤◌, ◌/◌, suc, Bool, true, false, List, ℕ, [], length, Option, Some}
-use Rattle.alma_base.specs.Limits.{source_limit, size_limit, input_limit}
-use Rattle.alma_io.specs.Files.{Has}
+use Rattle.std.specs.Prelude.{◌≡◌, ◌<◌, ◌≤◌, ◌/◌, suc, Bool, true, false, List, ℕ, [], Option, Some}
+use Rattle.alma_base.specs.Limits.{size_limit}
 use Rattle.alma_io.specs.Outside.{Outside}
 use Rattle.alma_io.specs.Sides.{SourceSide}
 use Rattle.alma_ir.specs.Tree.{Program}
 use Rattle.alma_mean.specs.Events.{End, CutOff, first}
 use Rattle.alma_mean.specs.Meaning.{ev_program, result}
 use Rattle.alma_lower_implements.specs.Implements.{Covers, visit_steps}
-use Rattle.alma_lower_sound.specs.Reads.{program_reads}
 use Rattle.alma_driver_words.specs.Words.{Asks, Run, file_of}
-use Rattle.alma_plan.specs.Undisturbed.{ShowsDue}
+use Rattle.alma_plan.specs.Undisturbed.{GivesSource, ShowsDue}
 use Rattle.alma_run_laws.specs.Shown.{size_of, MayRunOut}
 use Rattle.alma_source.specs.Refusal.{IsOnlyFault, IsProgramOf, place_of}
 use Rattle.alma_source.specs.declared.fault.SourceFault.{SourceFault}
@@ -20,15 +18,11 @@ use Rattle.alma_driver_outcome.specs.declared.end.Counts.{Counts}
 use Rattle.alma_driver_outcome.specs.declared.end.End as told
 use Rattle.alma_driver_outcome.specs.declared.end.End.TheVariants.{Refused, StepsOut, TooMuchCode}
 
--- the words ask to run a file that has this source, for so many steps; and where its program reads, this input is left; both are within
--- their lengths
+-- the words ask to run a file for so many steps; it has this source, and where its program reads, this input is left
 pub record AsksToRun (words : List (List ℕ)) (before : Outside) (source input : List ℕ) (steps : ℕ) (stats : Bool) : Type 0 where
   pub name : List ℕ
   pub asks : Asks words (Run name steps stats)
-  pub told : before.files.told name ≡ Has source
-  pub source_short : length source ≤ source_limit
-  pub left : (p : Program) → IsProgramOf source p → program_reads p ≡ true → before.input.left ≡ Some input
-  pub input_short : length input ≤ input_limit
+  pub given : GivesSource before name source input
 
 -- the call shows this end, by its status and its text on err, and these bytes on out; the files stay
 abbrev pub ShowsEnd : (words : List (List ℕ)) → (before after : Outside) → (status : ℕ) → told.End → (out : List ℕ) → Type 0
