@@ -14,6 +14,6 @@ all_end file ModuleReturn = module_return
 all_end file (Performed end) = program_end program success end
 
 -- the first word, which names the file; none where there is none
-abbrev pub first_of : (words : List (List ℕ)) → List ℕ
-first_of [] = []
-first_of (file ∷ options) = file
+abbrev pub first_word : (words : List (List ℕ)) → List ℕ
+first_word [] = []
+first_word (file ∷ options) = file

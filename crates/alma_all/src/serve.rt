@@ -7,7 +7,7 @@ ghost use Rattle.alma_plan.specs.Course.{Follows};
 ghost use Rattle.alma_driver_words.specs.Words.{greatest_steps, texts};
 ghost use Rattle.alma_resolved.specs.Room.{HasRoom};
 ghost use Rattle.alma_all.specs.All.{program as program_name, all_sense, all_plan, file_plan, list_plan, with_options};
-ghost use Rattle.alma_all.specs.Ends.{all_end, first_of};
+ghost use Rattle.alma_all.specs.Ends.{all_end, first_word};
 
 use crate::end::AllEnd;
 use alma_driver_words::{DEFAULT_STEPS, is_file_name, split_word, steps_option};
@@ -99,7 +99,7 @@ pub fn perform<F: Files, I: Source, O: Sink>(
 ) -> AllEnd
     ensures { Follows all_sense program_name (all_plan (texts words.now)) (F.side files.old)
         (F.side files.new) (I.side input.old) (I.side input.new) (O.side out.old)
-        (O.side out.new) (all_end (first_of (texts words.now)) result) }
+        (O.side out.new) (all_end (first_word (texts words.now)) result) }
 {
     let Some((file, options)) = split_word(words) else {
         return AllEnd::BadWord(1);

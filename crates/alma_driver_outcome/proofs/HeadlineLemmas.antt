@@ -69,15 +69,15 @@ pub record CameWhole (words : List (List ℕ)) (before after : Outside) (status 
   pub takes : Takes due.reading before.input after.input
 
 -- a run stores nothing
-unstored : (left : Option (List ℕ)) (p : Program) (steps : ℕ) (stats : Bool) (due : Due) → ProgramOutcome left p steps (Prints stats) due
+stores_nothing : (left : Option (List ℕ)) (p : Program) (steps : ℕ) (stats : Bool) (due : Due) → ProgramOutcome left p steps (Prints stats) due
     → due.stored ≡ None
-unstored left p steps stats due (ran code size is o) = by o
+stores_nothing left p steps stats due (ran code size is o) = by o
   where
     by : InputOutcome left code steps (Prints stats) due → due.stored ≡ None
     by (unread quiet e) = ap (λ (d : Due). d.stored) e
     by (taken input reads l s e) = ap (λ (d : Due). d.stored) e
     by (past_input reads more e) = ap (λ (d : Due). d.stored) e
-unstored left p steps stats due (too_much_code size e) = ap (λ (d : Due). d.stored) e
+stores_nothing left p steps stats due (too_much_code size e) = ap (λ (d : Due). d.stored) e
 
 module _ (words : List (List ℕ)) (source input : List ℕ) (steps : ℕ) (stats : Bool) (before after : Outside) (status : ℕ) where
   -- what is due by its end and its bytes, where nothing is stored
@@ -121,7 +121,7 @@ module _ (words : List (List ℕ)) (source input : List ℕ) (steps : ℕ) (stat
       → ProgramOutcome before.input.left p steps (Prints stats) due
       → RunEnds words source input steps stats before after status
   ends_program p due told short is h (ran code size is_code o) =
-      ends_meant p due is size (unstored before.input.left p steps stats due (ran code size is_code o)) h
+      ends_meant p due is size (stores_nothing before.input.left p steps stats due (ran code size is_code o)) h
       (run_means before.input.left input p code steps stats due (λ r. told (sym is_code.reads ∙ r)) short is_code.implements o)
   ends_program p due told short is h (too_much_code size e) =
       too_large p is size (subst (λ (d : Due). ShowsDue before after status (shown_in (file_of words) d)) e h)

@@ -1,5 +1,5 @@
 -- What a run of a source comes to, in the words of a reader of its meaning.
-use Rattle.std.specs.Prelude.{◌≡◌, ◌<◌, ◌≤◌, ◌/◌, suc, Bool, true, false, List, ℕ, [], Option, Some}
+use Rattle.std.specs.Prelude.{◌≡◌, ◌<◌, ◌≤◌, ◌/◌, suc, Bool, true, false, List, ℕ, [], Option, None, Some}
 use Rattle.alma_base.specs.Limits.{size_limit}
 use Rattle.alma_io.specs.Outside.{Outside}
 use Rattle.alma_io.specs.Sides.{SourceSide}
@@ -12,8 +12,8 @@ use Rattle.alma_plan.specs.Undisturbed.{GivesSource, ShowsDue}
 use Rattle.alma_run_laws.specs.Shown.{size_of, MayRunOut}
 use Rattle.alma_source.specs.Refusal.{IsOnlyFault, IsProgramOf, place_of}
 use Rattle.alma_source.specs.declared.fault.SourceFault.{SourceFault}
-use Rattle.alma_driver_outcome.specs.Outcome.{AreCounts, due_of, told_end}
-use Rattle.alma_driver_outcome.specs.Parts.{shown_in}
+use Rattle.alma_driver_outcome.specs.Outcome.{AreCounts, told_end}
+use Rattle.alma_driver_outcome.specs.Ends.{ending_in}
 use Rattle.alma_driver_outcome.specs.declared.end.Counts.{Counts}
 use Rattle.alma_driver_outcome.specs.declared.end.End as told
 use Rattle.alma_driver_outcome.specs.declared.end.End.TheVariants.{Refused, StepsOut, TooMuchCode}
@@ -26,7 +26,8 @@ pub record AsksToRun (words : List (List ℕ)) (before : Outside) (source input 
 
 -- the call shows this end, by its status and its text on err, and these bytes on out; the files stay
 abbrev pub ShowsEnd : (words : List (List ℕ)) → (before after : Outside) → (status : ℕ) → told.End → (out : List ℕ) → Type 0
-ShowsEnd words before after status end out = ShowsDue before after status (shown_in (file_of words) (due_of end out))
+ShowsEnd words before after status end out =
+    ShowsDue before after status (record { end = ending_in (file_of words) end; out = out; stored = None })
 
 -- what becomes of an input that is told: nothing of it is left where it is read, and else it stays
 abbrev pub IsInputLeft : (reads : Bool) → SourceSide → SourceSide → Type 0

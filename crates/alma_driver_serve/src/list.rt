@@ -16,7 +16,7 @@ use alma_object::ObjectView;
 use alma_verify::open_object;
 use std::alloc::Global;
 
-// Shows a text.
+// Writes a text to out: a success, or a write fault.
 fn show_text<O: Sink>(text: &[u8], out: &mut O) -> End
     ensures { Goes (λ due. due ≡ due_of (Succeeded None) text.now)
         (O.side out.old) (O.side out.new) result }

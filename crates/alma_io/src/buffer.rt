@@ -1,5 +1,5 @@
 // Output that waits for more of it.
-ghost use Rattle.std.specs.Prelude.{◌≡◌, ◌++◌, [], List, ℕ, true, false, IsFalse, IsTrue, OnOk, OnErr};
+ghost use Rattle.std.specs.Prelude.{◌≡◌, ◌++◌, [], true, false, OnErr};
 ghost use Rattle.alma_io.specs.Buffer.{Buffers};
 ghost use Rattle.alma_io.specs.Outside.{Writes};
 
@@ -10,7 +10,8 @@ use std::marker::Model;
 /// The greatest number of bytes that wait.
 const BUFFER_ROOM: usize = 4096;
 
-/// Bytes on their way to a sink: short pieces wait, and go out together.
+/// Bytes on their way to a sink: short pieces wait, and go out together. What waits when it is
+/// dropped is lost.
 #[derive(Drop)]
 pub struct SinkBuffer {
     held: ArrayVec<u8, BUFFER_ROOM>,
@@ -42,10 +43,12 @@ impl SinkBuffer {
         self.held.try_extend_from_slice(piece).is_ok()
     }
 
-    /// Takes a piece: it waits where there is room for it, and else goes out behind what waited.
+    /// Takes a piece. Where it finds no room, what waited goes out first, and a long piece too. At
+    /// an error what did not go out is lost.
     pub fn write<K: Sink>(&mut self, piece: &[u8], sink: &mut K) -> Result<(), Failed>
-        ensures { Buffers (K.side sink.old) (K.side sink.new) (self.old ++ piece.now) self.new
-            result }
+        ensures writes { Buffers (K.side sink.old) (K.side sink.new) (self.old ++ piece.now)
+            self.new result }
+        ensures empty { OnErr result (self.new ≡ []) }
     {
         if self.hold(piece) {
             return Ok(());
@@ -57,14 +60,13 @@ impl SinkBuffer {
         Ok(write_all(sink, piece)?)
     }
 
-    /// Writes what waits.
+    /// Writes what waits. At an error what did not go out is lost.
     pub fn flush<K: Sink>(&mut self, sink: &mut K) -> Result<(), Failed>
         ensures writes { Writes (K.side sink.old) (K.side sink.new) self.old result }
-        ensures empty { OnOk result (self.new ≡ []) }
-        ensures kept { OnErr result (self.new ≡ self.old) }
+        ensures empty { self.new ≡ [] }
     {
-        write_all(sink, self.held.as_slice())?;
+        let outcome = write_all(sink, self.held.as_slice());
         self.held.clear();
-        Ok(())
+        Ok(outcome?)
     }
 }

@@ -13,7 +13,7 @@ abbrev pub run_state : Registers Picture → State
 run_state r =
     state_of (λ (m : Picture). record { now = m.now; held = m.held; choice_room = m.choice_room; trail_room = m.trail_room; past = [] }) r
 
--- its code and input, the state of the copying code machine, whether it is running, and what the last step printed
+-- its code and input, the state of the copying code machine, whether it is running, and the print that it shows
 pub record MachineView : Type 0 where
   pub code : PlainCode
   pub input : List ℕ

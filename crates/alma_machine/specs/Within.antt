@@ -10,12 +10,12 @@ pub record RunsWithin (old new : MachineView) (budget : ℕ) (result : RunEnd) :
   -- whole: the machine is where it is after the budget, and so are its answer and its prints
   pub answer : OnWhole result (result ≡ run_end_of (after old.code old.input budget old.state).mode)
   pub state : OnWhole result (new.state ≡ after old.code old.input budget old.state)
-  pub all : OnWhole result
+  pub all_prints : OnWhole result
       (prints old.code old.input (made old new) old.state ≡ prints old.code old.input budget old.state)
   -- in each case: it is where it is after the steps that were made
   pub few : new.state.steps ≤ old.state.steps + budget
-  pub reached : new.state ≡ after old.code old.input (made old new) old.state
+  pub state_is : new.state ≡ after old.code old.input (made old new) old.state
   pub steps_out : OnStepsOut result (made old new ≡ budget)
-  pub shown : ShowsLast result new.printed (last_print old.code old.input (made old new) old.state old.printed)
+  pub shows : ShowsLast result new.printed (last_print old.code old.input (made old new) old.state old.printed)
   pub running : new.running ≡ is_steps_out result
   pub same : (new.code ≡ old.code) × (new.input ≡ old.input)

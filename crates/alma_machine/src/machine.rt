@@ -31,7 +31,7 @@ use alma_verify::Verified;
 use std::alloc::Global;
 use std::marker::Model;
 
-/// What was printed is out after so many steps more.
+/// Behind each so many steps of a run, all that was printed goes out.
 const FLUSH_STEPS: u64 = 4096;
 
 /// How a run with a budget ends.
@@ -155,8 +155,9 @@ fn write_printed<K: Sink>(
     }
 }
 
-// Hands over what a step printed, the last of so many, and empties the buffer where it is due.
-fn write_through<K: Sink>(
+// Hands what a step printed to the buffer, and empties that behind each `FLUSH_STEPS` steps; this
+// step is the last of so many.
+fn write_buffered<K: Sink>(
     step: Step,
     printed: &[u8],
     made: u64,
@@ -175,7 +176,7 @@ fn write_through<K: Sink>(
 }
 
 // How many steps come before the next one that empties the buffer, or is the last of the budget.
-fn until_flush(made: u64, budget: u64) -> u64
+fn steps_until_flush(made: u64, budget: u64) -> u64
     requires { made < budget }
     ensures { made + result < budget }
 {
@@ -364,7 +365,8 @@ impl<'b, 'i> Machine<'b, 'i> {
         made
     }
 
-    /// The bytes that the last step printed; none where it printed nothing or was refused.
+    /// The bytes that the last step printed; none where it printed nothing, or the run was cut
+    /// short.
     pub fn printed(&self) -> &[u8]
         ensures { result.now ≡ self.now.printed }
     {
@@ -435,7 +437,7 @@ impl<'b, 'i> Machine<'b, 'i> {
     {
         let mut made = 0;
         while made < budget {
-            let quick = self.dash(until_flush(made, budget));
+            let quick = self.dash(steps_until_flush(made, budget));
             made += quick;
             let Ok(step) = self.step() else {
                 return RunEnd::Memory;
@@ -444,7 +446,7 @@ impl<'b, 'i> Machine<'b, 'i> {
                 return RunEnd::from(end);
             }
             made += 1;
-            if write_through(step, self.printed(), made, buffer, out).is_err() {
+            if write_buffered(step, self.printed(), made, buffer, out).is_err() {
                 self.stop();
                 return RunEnd::WriteFault;
             }
@@ -455,7 +457,7 @@ impl<'b, 'i> Machine<'b, 'i> {
     }
 
     /// Steps until the run ends, and at most `budget` of them. Prints wait for others, 4,096 steps
-    /// at most, and go out together.
+    /// at most, and go out together; a write that fails may stop the run some steps behind them.
     pub fn run<K: Sink>(&mut self, budget: u64, out: &mut K) -> RunEnd
         requires running { IsTrue self.old.running }
         requires few { self.old.state.steps + budget < 2 ^ 63 }

@@ -1,4 +1,4 @@
--- A call in which nothing fails shows all that is due from its plan.
+-- What a call is given, and that it shows all that is due where nothing fails.
 use Rattle.std.specs.Prelude.{◌≡◌, ◌≤◌, true, ℕ, List, length, Some}
 use Rattle.alma_base.specs.Limits.{input_limit, source_limit}
 use Rattle.alma_io.specs.Files.{Has}

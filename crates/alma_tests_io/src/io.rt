@@ -536,41 +536,113 @@ fn all_is_written_or_the_front_that_went_out(rt: HostRuntime) -> Result<(), Fail
     Ok(())
 }
 
-// A text that a buffer has no room for.
-const LONG: [u8; 5_000] = [b'x'; 5_000];
+// A buffer has no room for this text.
+const LONG_TEXT: [u8; 5_000] = [b'x'; 5_000];
 
-// Hands three pieces to a buffer; how many bytes the sink has behind each, and behind the flush.
-fn four_counts(buffer: &mut SinkBuffer, sink: &mut MemSink) -> Result<[usize; 4], Failed> {
-    buffer.write(b"ab", sink)?;
-    let first = sink.bytes().len();
-    buffer.write(&LONG, sink)?;
-    let second = sink.bytes().len();
-    buffer.write(b"cd", sink)?;
-    let third = sink.bytes().len();
-    buffer.flush(sink)?;
-    Ok([first, second, third, sink.bytes().len()])
+// What is handed to a buffer: 4,096 bytes wait, and the next one finds no room.
+const PIECES: [&[u8]; 5] = [b"ab", &[b'x'; 4_094], b"c", &LONG_TEXT, b"de"];
+
+struct Buffered {
+    // How many of the pieces are handed over, and whether what waits goes out behind them.
+    count: usize,
+    is_flushed: bool,
+    // The write that fails, from 1.
+    fails: u64,
+    outcome: Result<(), Failed>,
+    // How many bytes the sink has then.
+    written: usize,
 }
 
-// The same over a sink whose writes of these numbers fail.
-fn buffer_counts(alloc: Global, fails: &[u64]) -> Result<Result<[usize; 4], Failed>, NoMemory> {
-    let mut sink = MemSink::new(alloc, 6_000, 6_000, fails)?;
-    Ok(four_counts(&mut SinkBuffer::new(), &mut sink))
+const BUFFERED_ROWS: [Buffered; 9] = [
+    Buffered {
+        count: 2,
+        is_flushed: false,
+        fails: 9,
+        outcome: Ok(()),
+        written: 0,
+    },
+    Buffered {
+        count: 3,
+        is_flushed: false,
+        fails: 9,
+        outcome: Ok(()),
+        written: 4_096,
+    },
+    Buffered {
+        count: 5,
+        is_flushed: false,
+        fails: 9,
+        outcome: Ok(()),
+        written: 9_097,
+    },
+    Buffered {
+        count: 5,
+        is_flushed: true,
+        fails: 9,
+        outcome: Ok(()),
+        written: 9_099,
+    },
+    Buffered {
+        count: 0,
+        is_flushed: true,
+        fails: 1,
+        outcome: Ok(()),
+        written: 0,
+    },
+    Buffered {
+        count: 5,
+        is_flushed: true,
+        fails: 4,
+        outcome: Err(Failed),
+        written: 9_097,
+    },
+    Buffered {
+        count: 5,
+        is_flushed: true,
+        fails: 3,
+        outcome: Err(Failed),
+        written: 4_097,
+    },
+    Buffered {
+        count: 5,
+        is_flushed: true,
+        fails: 2,
+        outcome: Err(Failed),
+        written: 4_096,
+    },
+    Buffered {
+        count: 5,
+        is_flushed: true,
+        fails: 1,
+        outcome: Err(Failed),
+        written: 0,
+    },
+];
+
+// Hands the pieces of a row to a buffer.
+fn write_pieces(sink: &mut MemSink, row: &Buffered) -> Result<(), Failed> {
+    let mut buffer = SinkBuffer::new();
+    for piece in PIECES.iter().take(row.count) {
+        buffer.write(piece, sink)?;
+    }
+    if row.is_flushed {
+        return buffer.flush(sink);
+    }
+    Ok(())
+}
+
+// How that ends, and how many bytes the sink has then.
+fn buffer_row(alloc: Global, row: &Buffered) -> Result<(Result<(), Failed>, usize), NoMemory> {
+    let mut sink = MemSink::new(alloc, 9_999, 9_999, &[row.fails])?;
+    let outcome = write_pieces(&mut sink, row);
+    Ok((outcome, sink.bytes().len()))
 }
 
 #[test]
 fn short_pieces_go_out_together(rt: HostRuntime) -> Result<(), Fail> {
-    let rows: [(u64, Result<[usize; 4], Failed>); 4] = [
-        (4, Ok([0, 5_002, 5_002, 5_004])),
-        (3, Err(Failed)),
-        (2, Err(Failed)),
-        (1, Err(Failed)),
-    ];
-    for (fault, want) in &rows {
-        assert_eq!(rt;
-            buffer_counts(rt.alloc(), &[*fault])?,
-            *want,
-            "write {fault}"
-        );
+    for (number, row) in BUFFERED_ROWS.iter().enumerate() {
+        let found = buffer_row(rt.alloc(), row)?;
+        assert_eq!(rt; found, (row.outcome, row.written), "row {number}");
     }
     Ok(())
 }

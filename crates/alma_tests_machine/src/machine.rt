@@ -392,7 +392,8 @@ fn steps_run_out_at_each_budget_below_the_whole(rt: HostRuntime) -> Result<(), F
     Ok(())
 }
 
-// What is printed before the write of a number fails: all prints go out together, in three writes.
+// What is printed before the write of this number, from 1, fails: all prints go out together, in
+// three writes.
 const WRITE_FAULTS: [(u64, &[u8]); 3] = [(1, b""), (2, b"123"), (3, b"123FAL")];
 
 #[test]
@@ -415,7 +416,25 @@ const PRINT_AND_LOOP: [Instr; 3] = [
     Instr::Jump { to: 2 },
 ];
 
-// How a run of so many steps at most ends whose sink fails at once.
+// Prints 19 digits again and again: the 216th time they find no room in the buffer.
+const PRINT_LONG: [Instr; 3] = [
+    Instr::Const {
+        to: 1,
+        value: i64::MAX,
+    },
+    Instr::WriteInt { value: 1 },
+    Instr::Jump { to: 1 },
+];
+
+// A code, how many steps it is given, and in how many it ends where each write fails.
+const FAILING_ROWS: [(&[Instr], u64, u64); 4] = [
+    (&PRINT_AND_LOOP, 99, 99),
+    (&PRINT_AND_LOOP, 4_096, 4_096),
+    (&PRINT_AND_LOOP, 9_999, 4_096),
+    (&PRINT_LONG, 9_999, 432),
+];
+
+// How a run of so many steps at most ends whose sink has no room, and its steps.
 fn run_to_fault(alloc: Global, code: Verified<'_>, budget: u64) -> Result<(RunEnd, u64), NoMemory>
     requires { budget ≤ 9999 }
 {
@@ -425,17 +444,24 @@ fn run_to_fault(alloc: Global, code: Verified<'_>, budget: u64) -> Result<(RunEn
     Ok((end, machine.steps()))
 }
 
-#[test]
-fn a_print_is_out_4096_steps_later(rt: HostRuntime) -> Result<(), Fail> {
-    let object = object(rt.alloc(), &PRINT_AND_LOOP)?;
+// The same of the code of these instructions.
+fn fault_of(alloc: Global, instrs: &[Instr], budget: u64) -> Result<(RunEnd, u64), Fail>
+    requires few { budget ≤ 9999 }
+    requires short { length instrs.now ≤ 99 }
+{
+    let object = object(alloc, instrs)?;
     let code = opened(&object).ok_or("sound")?;
-    for budget in [2, 99, 4_096, 9_999] {
-        let found = run_to_fault(rt.alloc(), code, budget)?;
-        assert_eq!(rt;
-            found,
-            (RunEnd::WriteFault, budget.min(4_096)),
-            "after {budget}"
-        );
+    Ok(run_to_fault(alloc, code, budget)?)
+}
+
+#[test]
+fn prints_go_out_where_they_find_no_room_and_behind_4096_steps(
+    rt: HostRuntime,
+) -> Result<(), Fail> {
+    for (instrs, budget, steps) in &FAILING_ROWS {
+        assert!(rt; instrs.len() <= 99 && *budget <= 9_999);
+        let found = fault_of(rt.alloc(), instrs, *budget)?;
+        assert_eq!(rt; found, (RunEnd::WriteFault, *steps), "within {budget}");
     }
     Ok(())
 }

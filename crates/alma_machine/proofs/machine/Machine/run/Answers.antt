@@ -23,11 +23,11 @@ returns-then-is_err g c =
       state = tt;
       out = tt;
       few = far.few;
-      made = far.reached;
+      made = far.state_is;
       steps_out = tt;
       memory = tt;
       write_fault = front;
-      printed = far.shown;
+      printed = far.shows;
       cause = record { later = fails.risen.0; ok = tt; err = fails.risen.1 };
       running = far.running;
       same = far.same;

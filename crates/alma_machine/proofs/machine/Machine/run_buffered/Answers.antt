@@ -1,13 +1,13 @@
 use Rattle.std.proofs.Common.{rules, [], ◌≡◌, ◌<◌, ◌+◌, ◌++◌, List, ℕ, ap, sym, ◌∙◌, subst, arith, true, false}
 use Rattle.std.specs.Prelude.{is_err}
 use Rattle.alma_code.specs.Machine.{prints}
-use Rattle.alma_io.specs.Buffer.{GainsBut}
+use Rattle.alma_io.specs.Buffer.{GainsAllBut}
 use Rattle.alma_io.proofs.BufferLemmas.{failed_of, gained_of}
 use Rattle.alma_machine.specs.Runs.{made}
 use Rattle.alma_machine.specs.View.{goes_on}
 use Rattle.alma_machine.proofs.Dashing.{progress_dash, prints_dash}
 use Rattle.alma_machine.proofs.Budget.{progress_more, prints_then, made_is, finished, goes_unless, on_err}
-use Rattle.alma_machine.proofs.Withins.{reached, reached_still, starves, fails_at, ends_at, buffered_more, gained_end, err_stops}
+use Rattle.alma_machine.proofs.Withins.{reached_by_progress, reached_still, starves, fails_at, ends_at, buffered_more, gained_end, err_stops}
 use Rattle.alma_machine.proofs.machine.Machine.run_buffered.Goals as goal
 
 -- memory was wanted
@@ -23,8 +23,8 @@ returns-in_default-clause-far g c =
     let refused = on_err c.step.result ((c.step.new.self.state ≡ d.new.self.state) × (c.step.new.self.printed ≡ [])) failed
     c.step.ensures.refused in
     starves old c.step.new.self m c.args.budget
-    (reached_still old d.new.self c.step.new.self m (reached old d.new.self m now) refused.0 c.step.ensures.same)
-    (omega (arith, d.ensures.few, c.until_flush.ensures)) (c.step.ensures.running ∙ err_stops c.step.result failed) refused.1
+    (reached_still old d.new.self c.step.new.self m (reached_by_progress old d.new.self m now) refused.0 c.step.ensures.same)
+    (omega (arith, d.ensures.few, c.steps_until_flush.ensures)) (c.step.ensures.running ∙ err_stops c.step.result failed) refused.1
 
 pub returns-in_default-clause-out : goal.returns-in_default-clause-out
 returns-in_default-clause-out g c =
@@ -37,8 +37,8 @@ returns-in_default-clause-out g c =
     let failed : is_err c.step.result ≡ true = search rules in
     let refused = on_err c.step.result ((c.step.new.self.state ≡ d.new.self.state) × (c.step.new.self.printed ≡ [])) failed
     c.step.ensures.refused in
-    let count = (reached_still old d.new.self c.step.new.self m (reached old d.new.self m now) refused.0 c.step.ensures.same).count in
-    subst (λ (bytes : List ℕ). GainsBut (g.K.Sink.side c.args.out.now) (g.K.Sink.side c.loop-made.out) (c.args.buffer.now ++ bytes)
+    let count = (reached_still old d.new.self c.step.new.self m (reached_by_progress old d.new.self m now) refused.0 c.step.ensures.same).count in
+    subst (λ (bytes : List ℕ). GainsAllBut (g.K.Sink.side c.args.out.now) (g.K.Sink.side c.loop-made.out) (c.args.buffer.now ++ bytes)
     c.loop-made.buffer)
     (sym (ap (λ k. prints old.code old.input k old.state) count
     ∙ prints_dash old c.loop-made.self c.loop-made.made d.result before d.ensures.silent)) c.loop-made.invariant.out
@@ -54,7 +54,7 @@ returns-in-Done-clause-far g c =
     d.ensures.shown d.ensures.counted d.ensures.same in
     let p = progress_more old d.new.self c.step.new.self m c.in-Ok.step now c.in-Ok.ensures.step c.in-Ok.ensures.counted
     c.in-Ok.ensures.same in
-    let lt : m < c.args.budget = omega (arith, d.ensures.few, c.until_flush.ensures) in
+    let lt : m < c.args.budget = omega (arith, d.ensures.few, c.steps_until_flush.ensures) in
     let h = finished old d.new.self c.step.new.self m c.args.budget c.in-Ok.step c.in-Done.end now p c.in-Ok.ensures.step c.in-Done.is
     c.in-Ok.ensures.mode c.in-Ok.ensures.quiet lt in
     rw c.from.ensures (ends_at old c.step.new.self m c.args.budget c.in-Done.end p h lt
@@ -70,11 +70,11 @@ returns-in-Done-clause-out g c =
     d.ensures.shown d.ensures.counted d.ensures.same in
     let p = progress_more old d.new.self c.step.new.self m c.in-Ok.step now c.in-Ok.ensures.step c.in-Ok.ensures.counted
     c.in-Ok.ensures.same in
-    let lt : m < c.args.budget = omega (arith, d.ensures.few, c.until_flush.ensures) in
+    let lt : m < c.args.budget = omega (arith, d.ensures.few, c.steps_until_flush.ensures) in
     let h = finished old d.new.self c.step.new.self m c.args.budget c.in-Ok.step c.in-Done.end now p c.in-Ok.ensures.step c.in-Done.is
     c.in-Ok.ensures.mode c.in-Ok.ensures.quiet lt in
     rw c.from.ensures (gained_end c.in-Done.end _ _ _ _
-    (subst (λ (bytes : List ℕ). GainsBut (g.K.Sink.side c.args.out.now) (g.K.Sink.side c.loop-made.out) (c.args.buffer.now ++ bytes)
+    (subst (λ (bytes : List ℕ). GainsAllBut (g.K.Sink.side c.args.out.now) (g.K.Sink.side c.loop-made.out) (c.args.buffer.now ++ bytes)
     c.loop-made.buffer)
     (sym (ap (λ k. prints old.code old.input k old.state) (made_is old c.step.new.self (m + 1) p) ∙ h.last ∙ sym h.printed
     ∙ prints_dash old c.loop-made.self c.loop-made.made d.result before d.ensures.silent)) c.loop-made.invariant.out))
@@ -91,18 +91,18 @@ returns-then-is_err g c =
     d.ensures.counted d.ensures.same in
     let p = progress_more old d.new.self c.step.new.self m c.in-Ok.step now c.in-Ok.ensures.step c.in-Ok.ensures.counted
     c.in-Ok.ensures.same in
-    let at = reached_still old c.step.new.self c.stop.new.self (m + 1) (reached old c.step.new.self (m + 1) p) c.stop.ensures.state
+    let at = reached_still old c.step.new.self c.stop.new.self (m + 1) (reached_by_progress old c.step.new.self (m + 1) p) c.stop.ensures.state
     c.stop.ensures.same in
-    let failed : is_err c.write_through.result ≡ true = search rules in
+    let failed : is_err c.write_buffered.result ≡ true = search rules in
     record {
-      far = fails_at old c.stop.new.self (m + 1) c.args.budget at (omega (arith, d.ensures.few, c.until_flush.ensures))
+      far = fails_at old c.stop.new.self (m + 1) c.args.budget at (omega (arith, d.ensures.few, c.steps_until_flush.ensures))
           c.stop.ensures.stopped.0 c.stop.ensures.stopped.1;
-      out = failed_of c.write_through.result (g.K.Sink.side c.args.out.now) (g.K.Sink.side c.write_through.new.out)
-          (c.args.buffer.now ++ prints old.code old.input (made old c.stop.new.self) old.state) c.write_through.new.buffer failed
-          (buffered_more c.write_through.result (g.K.Sink.side c.args.out.now) (g.K.Sink.side c.loop-made.out)
-          (g.K.Sink.side c.write_through.new.out) c.args.buffer.now (prints old.code old.input c.loop-made.made old.state)
+      out = failed_of c.write_buffered.result (g.K.Sink.side c.args.out.now) (g.K.Sink.side c.write_buffered.new.out)
+          (c.args.buffer.now ++ prints old.code old.input (made old c.stop.new.self) old.state) c.write_buffered.new.buffer failed
+          (buffered_more c.write_buffered.result (g.K.Sink.side c.args.out.now) (g.K.Sink.side c.loop-made.out)
+          (g.K.Sink.side c.write_buffered.new.out) c.args.buffer.now (prints old.code old.input c.loop-made.made old.state)
           c.printed.result.now (prints old.code old.input (made old c.stop.new.self) old.state) c.loop-made.buffer
-          c.write_through.new.buffer c.loop-made.invariant.out c.write_through.ensures
+          c.write_buffered.new.buffer c.loop-made.invariant.out c.write_buffered.ensures
           (ap (λ k. prints old.code old.input k old.state) at.count
           ∙ prints_then old d.new.self c.step.new.self m c.in-Ok.step now c.in-Ok.ensures.step
           ∙ ap (λ bytes. bytes ++ c.step.new.self.printed)
@@ -122,16 +122,16 @@ loop-made-preserved g c =
     d.ensures.shown d.ensures.counted d.ensures.same in
     let p = progress_more old d.new.self c.step.new.self m c.in-Ok.step now c.in-Ok.ensures.step c.in-Ok.ensures.counted
     c.in-Ok.ensures.same in
-    let written : is_err c.write_through.result ≡ false = search rules in
+    let written : is_err c.write_buffered.result ≡ false = search rules in
     record {
-      within = omega (arith, d.ensures.few, c.until_flush.ensures);
+      within = omega (arith, d.ensures.few, c.steps_until_flush.ensures);
       progress = p;
-      out = gained_of c.write_through.result (g.K.Sink.side c.args.out.now) (g.K.Sink.side c.write_through.new.out)
-          (c.args.buffer.now ++ prints old.code old.input (m + 1) old.state) c.write_through.new.buffer written
-          (buffered_more c.write_through.result (g.K.Sink.side c.args.out.now) (g.K.Sink.side c.loop-made.out)
-          (g.K.Sink.side c.write_through.new.out) c.args.buffer.now (prints old.code old.input c.loop-made.made old.state)
-          c.printed.result.now (prints old.code old.input (m + 1) old.state) c.loop-made.buffer c.write_through.new.buffer
-          c.loop-made.invariant.out c.write_through.ensures
+      out = gained_of c.write_buffered.result (g.K.Sink.side c.args.out.now) (g.K.Sink.side c.write_buffered.new.out)
+          (c.args.buffer.now ++ prints old.code old.input (m + 1) old.state) c.write_buffered.new.buffer written
+          (buffered_more c.write_buffered.result (g.K.Sink.side c.args.out.now) (g.K.Sink.side c.loop-made.out)
+          (g.K.Sink.side c.write_buffered.new.out) c.args.buffer.now (prints old.code old.input c.loop-made.made old.state)
+          c.printed.result.now (prints old.code old.input (m + 1) old.state) c.loop-made.buffer c.write_buffered.new.buffer
+          c.loop-made.invariant.out c.write_buffered.ensures
           (prints_then old d.new.self c.step.new.self m c.in-Ok.step now c.in-Ok.ensures.step
           ∙ ap (λ bytes. bytes ++ c.step.new.self.printed)
           (prints_dash old c.loop-made.self c.loop-made.made d.result before d.ensures.silent)
