@@ -230,17 +230,20 @@ module _ (program : List ℕ) (scope : Scope) (dues : HasOwnDues scope) (before 
     takes,
   )
 
-  writes_shown_of : (end : Ending) → CourseTo end → ReportOf end → WritesGrew before after → (status ≡ 7) ⊎ (status ≡ 8)
-  writes_shown_of end course (unsaid s f) w = inl s
-  writes_shown_of end (unwritten r due may none q fetches files takes out) (said s g) w = inl (s ∙ of_status end _ q)
-  writes_shown_of end (unstored r due stored may is q fetches files risen takes out) (said s g) w = inl (s ∙ of_status end _ q)
-  writes_shown_of end (starved q fetches files reads out) (said s g) w = inr (s ∙ of_status end _ q)
-  writes_shown_of end (starved_within r due may q fetches files takes out quiet) (said s g) w = inr (s ∙ of_status end _ q)
+  writes_shown_of : (end : Ending) → CourseTo end → ReportOf end → WritesGrew before after → status ≡ 7
+  writes_shown_of end course (unsaid s f) w = s
+  writes_shown_of end (unwritten r due may none q fetches files takes out) (said s g) w = s ∙ of_status end _ q
+  writes_shown_of end (unstored r due stored may is q fetches files risen takes out) (said s g) w = s ∙ of_status end _ q
   writes_shown_of end course (said s g) (inr (inl h)) = absurd (omega (arith, h, g.quiet))
   writes_shown_of end (unfetched name asks q risen files input out) (said s g) (inl h) = absurd (omega (arith, h, out.quiet))
   writes_shown_of end (unfetched name asks q risen files input out) (said s g) (inr (inr h)) = absurd (omega (arith, h, files.1))
   writes_shown_of end (unread q fetches files reads lost risen out) (said s g) (inl h) = absurd (omega (arith, h, out.quiet))
   writes_shown_of end (unread q fetches files reads lost risen out) (said s g) (inr (inr h)) = absurd (omega (arith, h, files.1))
+  writes_shown_of end (starved q fetches files reads out) (said s g) (inl h) = absurd (omega (arith, h, out.quiet))
+  writes_shown_of end (starved q fetches files reads out) (said s g) (inr (inr h)) = absurd (omega (arith, h, files.1))
+  writes_shown_of end (starved_within r due may q fetches files takes out quiet) (said s g) (inl h) = absurd (omega (arith, h, quiet))
+  writes_shown_of end (starved_within r due may q fetches files takes out quiet) (said s g) (inr (inr h)) =
+      absurd (omega (arith, h, files.1))
   writes_shown_of end (done r due may is fetches files takes out) (said s g) (inl h) = absurd (omega (arith, h, out.quiet))
   writes_shown_of end (done r due may is fetches files takes out) (said s g) (inr (inr h)) =
       absurd (omega (arith, h, become_quiet before.files after.files due.stored files))
@@ -250,15 +253,19 @@ module _ (program : List ℕ) (scope : Scope) (dues : HasOwnDues scope) (before 
   quiet_reads fetches input (inl h) = omega (arith, h.1, ap (λ (c : List ℕ → ℕ). c h.0) fetches)
   quiet_reads fetches input (inr h) = omega (arith, h, input)
 
-  reads_shown_of : (end : Ending) → CourseTo end → ReportOf end → ReadsGrew before after → WriteFailed before after
-      ⊎ ((status ≡ 6) ⊎ (status ≡ 8))
+  starved_quiet : ReadsOnly scope.may before.input after.input → after.input.faults ≡ before.input.faults
+  starved_quiet (inl e) = ap (λ (x : SourceSide). x.faults) e
+  starved_quiet (inr (reads, lost, quiet)) = quiet
+
+  reads_shown_of : (end : Ending) → CourseTo end → ReportOf end → ReadsGrew before after → WriteFailed before after ⊎ (status ≡ 6)
   reads_shown_of end course (unsaid s f) grew = inl (inr (inl f.risen.1))
-  reads_shown_of end (unfetched name asks q risen files input out) (said s g) grew = inr (inl (s ∙ of_status end _ q))
-  reads_shown_of end (unread q fetches files reads lost risen out) (said s g) grew = inr (inl (s ∙ of_status end _ q))
+  reads_shown_of end (unfetched name asks q risen files input out) (said s g) grew = inr (s ∙ of_status end _ q)
+  reads_shown_of end (unread q fetches files reads lost risen out) (said s g) grew = inr (s ∙ of_status end _ q)
   reads_shown_of end (unwritten r due may none q fetches files takes out) (said s g) grew = inl (inl out.risen.1)
   reads_shown_of end (unstored r due stored may is q fetches files risen takes out) (said s g) grew = inl (inr (inr risen.1))
-  reads_shown_of end (starved q fetches files reads out) (said s g) grew = inr (inr (s ∙ of_status end _ q))
-  reads_shown_of end (starved_within r due may q fetches files takes out quiet) (said s g) grew = inr (inr (s ∙ of_status end _ q))
+  reads_shown_of end (starved q fetches files reads out) (said s g) grew = absurd (quiet_reads fetches (starved_quiet reads) grew)
+  reads_shown_of end (starved_within r due may q fetches files takes out quiet) (said s g) grew =
+      absurd (quiet_reads fetches (takes_quiet r before.input after.input takes) grew)
   reads_shown_of end (done r due may is fetches files takes out) (said s g) grew =
       absurd (quiet_reads fetches (takes_quiet r before.input after.input takes) grew)
 

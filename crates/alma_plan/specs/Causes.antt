@@ -66,10 +66,10 @@ pub record CausesWithin (program : List ℕ) (scope : Scope) (before after : Out
   pub files_stay : (status ≡ exit.read_fault) ⊎ (status ≡ exit.no_memory) → FilesStay before.files after.files
   -- but for read faults, write faults and want of memory, status, out, err, files and the input are all that is due
   pub whole : (status ≢ exit.read_fault) → (status ≢ exit.write_fault) → (status ≢ exit.no_memory) → IsWhole scope.may before after status
-  -- a failed write or store is not hidden: write fault, or want of memory
-  pub writes_shown : WritesGrew before after → (status ≡ exit.write_fault) ⊎ (status ≡ exit.no_memory)
-  -- nor a failed fetch or read, where no write failed: read fault, or want of memory
-  pub reads_shown : ReadsGrew before after → WriteFailed before after ⊎ ((status ≡ exit.read_fault) ⊎ (status ≡ exit.no_memory))
+  -- a failed write or store is not hidden: it is a write fault
+  pub writes_shown : WritesGrew before after → status ≡ exit.write_fault
+  -- nor a failed fetch or read, where no write failed: it is a read fault
+  pub reads_shown : ReadsGrew before after → WriteFailed before after ⊎ (status ≡ exit.read_fault)
   -- the input stays but where what may come reads it
   pub input : (after.input ≡ before.input) ⊎ MayRead scope.may
   -- nor is it hidden that a file is missing

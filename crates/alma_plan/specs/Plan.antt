@@ -55,6 +55,10 @@ too_long program = tells program exit.too_long (codes "too long")
 abbrev pub steps_out : (program : List ℕ) → Ending
 steps_out program = tells program exit.steps_out (codes "steps out")
 
+-- a program is too large, by its size
+abbrev pub too_large : (program : List ℕ) → (size : ℕ) → Ending
+too_large program size = tells program exit.too_much_code (codes "too much code " ++ decimal size)
+
 -- success, without a word on err
 abbrev pub success : Ending
 success = ending_of exit.succeeded []

@@ -1,5 +1,5 @@
 -- What programs come to that are read from files: plans of sources, of runs, and of objects.
-use Rattle.std.specs.Prelude.{◌≡◌, ℕ, ◌++◌, List, [], Bool, true, false, ltb, codes, decimal, None, Some}
+use Rattle.std.specs.Prelude.{◌≡◌, ℕ, ◌++◌, List, [], Bool, true, false, ltb, codes, None, Some}
 use Rattle.alma_base.specs.Fault.{run_fault_text}
 use Rattle.alma_base.specs.Limits.{source_limit, size_limit}
 use Rattle.alma_base.specs.declared.place.Place.{Place}
@@ -20,7 +20,7 @@ use Rattle.alma_lower.specs.CodeFor.{IsCodeFor}
 use Rattle.alma_source.specs.Texts.{refusal_text}
 use Rattle.alma_source.specs.Verdict.{Verdict, Accepted, Rejected, IsVerdict}
 use Rattle.alma_source.specs.declared.fault.SourceFault.{SourceFault}
-use Rattle.alma_plan.specs.Plan.{Due, Ending, Plan, Sense, Fetches, Judges, Reads, Ends, ending_of, silent, steps_out, success, tells}
+use Rattle.alma_plan.specs.Plan.{Due, Ending, Plan, Sense, Fetches, Judges, Reads, Ends, ending_of, silent, steps_out, success, tells, too_large}
 
 -- ---- what is due
 
@@ -86,7 +86,7 @@ module _ (program : List ℕ) (failed : Ending) where
 
 -- the end of a program that is too large
 abbrev pub too_much_code : (program : List ℕ) → Program → Ending
-too_much_code program p = tells program exit.too_much_code (codes "too much code " ++ decimal (size_of p))
+too_much_code program p = too_large program (size_of p)
 
 -- a program within its limit of size goes on, and another is refused with its size
 abbrev pub unless_large : (is_large : Bool) → (program : List ℕ) → Program → Plan Verdict Last → Plan Verdict Last

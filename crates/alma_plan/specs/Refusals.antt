@@ -8,7 +8,7 @@ use Rattle.alma_io.specs.declared.whole.ReadAll.{ReadAll}
 use Rattle.alma_io.specs.declared.whole.ReadAll.TheVariants as whole
 use Rattle.alma_object_format.specs.declared.fault.ObjectFault.{ObjectFault}
 use Rattle.alma_object_format.specs.Fault.{object_fault_name, object_fault_number}
-use Rattle.alma_plan.specs.Plan.{Ending, tells, bad_word}
+use Rattle.alma_plan.specs.Plan.{Ending, tells}
 use Rattle.alma_plan.specs.declared.refusal.Refusal.{Refusal}
 use Rattle.alma_plan.specs.declared.refusal.Refusal.TheVariants.{BadWord, BadObject, BadCode, Stopped}
 use Rattle.alma_plan.specs.declared.stop.Stop.{Stop}
@@ -64,9 +64,20 @@ rule_fault_text fault = codes "object Rule " ++ (decimal fault.rule ++ (codes " 
 
 -- ---- refusals
 
+-- the status of a call that is refused
+abbrev pub refusal_status : Refusal → ℕ
+refusal_status (BadWord word) = exit.bad_word
+refusal_status (BadObject fault) = exit.bad_object
+refusal_status (BadCode fault) = exit.bad_object
+refusal_status (Stopped stop) = stop_status stop
+
+-- what is said of it on err, behind the name of the program
+abbrev pub refusal_text : Refusal → List ℕ
+refusal_text (BadWord word) = codes "bad word " ++ decimal word
+refusal_text (BadObject fault) = object_fault_text fault
+refusal_text (BadCode fault) = rule_fault_text fault
+refusal_text (Stopped stop) = stop_text stop
+
 -- the end of a program that refuses
 abbrev pub refusal_end : (program : List ℕ) → Refusal → Ending
-refusal_end program (BadWord word) = bad_word program word
-refusal_end program (BadObject fault) = tells program exit.bad_object (object_fault_text fault)
-refusal_end program (BadCode fault) = tells program exit.bad_object (rule_fault_text fault)
-refusal_end program (Stopped stop) = stop_end program stop
+refusal_end program refusal = tells program (refusal_status refusal) (refusal_text refusal)

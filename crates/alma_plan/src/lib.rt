@@ -22,6 +22,6 @@ pub use run::run_program;
 pub use source::{FileStop, tell_file};
 pub use stop::Stop;
 pub use store::store_program;
-pub use telling::{tell_fault, tell_program, tell_refusal, tell_steps_out};
+pub use telling::{tell_fault, tell_program, tell_refusal, tell_steps_out, tell_too_much_code};
 pub use words::bad_file;
 pub use writing::{report, tell_line, tell_number, write_text};

@@ -1,9 +1,9 @@
 // Why calls are refused, in the words that all programs share.
-ghost use Rattle.std.specs.Prelude.{◌++◌, codes};
+ghost use Rattle.std.specs.Prelude.{◌≡◌, ◌++◌, codes};
 ghost use Rattle.alma_driver_words.specs.Exit as exit;
 ghost use Rattle.alma_plan.specs.Plan.{tells};
 ghost use Rattle.alma_plan.specs.Course.{Reports};
-ghost use Rattle.alma_plan.specs.Refusals.{with_number, object_fault_text, rule_fault_text, refusal_end};
+ghost use Rattle.alma_plan.specs.Refusals.{with_number, object_fault_text, rule_fault_text, refusal_status, refusal_end};
 
 use crate::stop::Stop;
 use crate::writing::{report, tell_line, tell_number};
@@ -25,6 +25,29 @@ pub enum Refusal {
     BadCode(VerifyFault),
     /// What stops any call.
     Stopped(Stop),
+}
+
+impl Refusal {
+    /// The exit status.
+    pub fn status(self) -> u8
+        ensures { result ≡ refusal_status self }
+    {
+        match self {
+            Refusal::BadWord(_) => exit::BAD_WORD,
+            Refusal::BadObject(_) | Refusal::BadCode(_) => exit::BAD_OBJECT,
+            Refusal::Stopped(stop) => stop.status(),
+        }
+    }
+}
+
+impl From<Stop> for Refusal {
+    ghost use Rattle.alma_plan.specs.declared.refusal.Refusal.{Refusal};
+
+    ghost from_gives = { λ stop refusal. refusal ≡ Refusal.Stopped stop };
+
+    fn from(stop: Stop) -> Self {
+        Refusal::Stopped(stop)
+    }
 }
 
 // Says that bytes are no object, by the name of the fault and its number, where it has one.

@@ -7,7 +7,7 @@ use alma_driver_words::exit;
 use alma_io::{Fetch, ReadAll, WriteFault};
 
 /// What stops a call before its own end.
-#[derive(Clone, Copy, Debug, PartialEq, Eq)]
+#[derive(Clone, Copy)]
 pub enum Stop {
     /// A file is missing, or a fetch or a read of the input failed.
     Read,

@@ -2,7 +2,7 @@
 ghost use Rattle.std.specs.Prelude.{[], decimal};
 ghost use Rattle.alma_driver_words.specs.Exit as exit;
 ghost use Rattle.alma_plan.specs.Course.{Reports};
-ghost use Rattle.alma_plan.specs.Plan.{ending_of, steps_out, tells};
+ghost use Rattle.alma_plan.specs.Plan.{ending_of, steps_out, tells, too_large};
 ghost use Rattle.alma_plan.specs.Ends.{program_end};
 ghost use Rattle.alma_plan.specs.Programs.{fault_words, named_words, refuse_source};
 ghost use Rattle.alma_source.specs.Texts.{refusal_line};
@@ -54,6 +54,14 @@ pub fn tell_steps_out<E: Sink>(err: &mut E, program: &[u8]) -> Status
     tell_line(err, program, exit::STEPS_OUT, b"steps out")
 }
 
+/// Says on err, in the name of a program, that another is too large, by its size: the status of
+/// that, or that of a write fault where err fails.
+pub fn tell_too_much_code<E: Sink>(err: &mut E, program: &[u8], size: u64) -> Status
+    ensures { Reports (too_large program.now size) (E.side err.old) (E.side err.new) result.0 }
+{
+    tell_number(err, program, exit::TOO_MUCH_CODE, b"too much code ", size)
+}
+
 /// Says on err, in the name of a program, how the run of another ended, where one that failed ends
 /// with this status and without a word: the status, or that of a write fault where err fails.
 pub fn tell_program<E: Sink>(err: &mut E, program: &[u8], failed: u8, end: ProgramEnd) -> Status
@@ -65,9 +73,7 @@ pub fn tell_program<E: Sink>(err: &mut E, program: &[u8], failed: u8, end: Progr
         ProgramEnd::Ended(End::Failed, _) => Status(failed),
         ProgramEnd::Ended(End::Fault(fault), line) => tell_fault(err, program, fault, line),
         ProgramEnd::StepsOut => tell_steps_out(err, program),
-        ProgramEnd::TooMuchCode(size) => {
-            tell_number(err, program, exit::TOO_MUCH_CODE, b"too much code ", size)
-        }
+        ProgramEnd::TooMuchCode(size) => tell_too_much_code(err, program, size),
         ProgramEnd::Stopped(stop) => refuse(err, program, Refusal::Stopped(stop)),
     }
 }
