@@ -1,8 +1,7 @@
 -- The headline: a run of a source shows what its program means.
-use Rattle.std.proofs.Common.{◌≡◌, ◌≤◌, ◌+◌, ◌*◌, ◌∙◌, ℕ, suc, List, [], length, ap, sym, subst, arith}
+use Rattle.std.proofs.Common.{◌≡◌, ◌≤◌, ◌+◌, ◌*◌, ◌∙◌, ℕ, suc, List, [], length, ap, refl, sym, subst, arith}
 use Rattle.std.specs.Prelude.{Bool, true, Option, None, Some}
-use Rattle.alma_base.specs.Limits.{source_limit, size_limit, input_limit}
-use Rattle.alma_io.specs.Files.{Told, Has, MayHave, MayPass}
+use Rattle.alma_base.specs.Limits.{size_limit, input_limit}
 use Rattle.alma_io.specs.Whole.{MayHaveMore}
 use Rattle.alma_ir.specs.Tree.{Program}
 use Rattle.alma_mean.specs.Events as events
@@ -15,30 +14,25 @@ use Rattle.alma_lower_sound.specs.Reads.{program_reads}
 use Rattle.alma_run_laws.specs.Shown as run_laws
 use Rattle.alma_run_laws.specs.Shown.{size_of, MayRunOut, whole, front}
 use Rattle.alma_run_laws.proofs.Meant.{same_result}
-use Rattle.alma_driver_words.specs.Words.{Request, Run, file_of}
-use Rattle.alma_driver_words.proofs.WordLemmas.{one_request}
-use Rattle.alma_driver_outcome.specs.Words.{read_by}
+use Rattle.alma_driver_words.specs.Words.{Run, file_of}
 use Rattle.alma_driver_outcome.specs.Showing.{Prints}
-use Rattle.alma_io.specs.Outside.{Outside, IsUndisturbed, MayBeLeft, StoredFile}
-use Rattle.alma_plan.specs.Causes.{IsWhole}
-use Rattle.alma_plan.specs.Course.{Takes}
-use Rattle.alma_plan.specs.Plan.{Reading}
+use Rattle.alma_io.specs.Outside.{Outside, IsUndisturbed, MayBeLeft}
 use Rattle.alma_plan.specs.Undisturbed.{ShowsDue}
-use Rattle.alma_plan.proofs.UndisturbedLemmas.{call_is_whole}
-use Rattle.alma_driver_outcome.specs.Ends.{ending_in, program}
 use Rattle.alma_source.specs.Refusal.{IsProgramOf}
 use Rattle.alma_driver_outcome.specs.Outcome.{Due, silent, code_due, InputOutcome, unread, taken, past_input, ProgramOutcome}
 use Rattle.alma_driver_outcome.specs.Outcome.{ran, too_much_code, told_end, MeansOn, IsSourceEnd, refused, SourceOutcome, stopped}
-use Rattle.alma_driver_outcome.specs.Outcome.{compiled, RequestOutcome, absent, past_limit, fetched, unfetched, Outcome, bad_word, asks}
-use Rattle.alma_driver_outcome.specs.Outcome.{Lacks}
-use Rattle.alma_driver_outcome.specs.Parts.{MayCome, shown_in}
-use Rattle.alma_driver_outcome.specs.Scope.{Causes, IsOutcome, scope_of}
-use Rattle.alma_driver_outcome.specs.Headline.{AsksToRun, ShowsEnd, ShowsResult, RunEnds, refuses, too_large, ended, ran_out}
+use Rattle.alma_driver_outcome.specs.Outcome.{compiled}
+use Rattle.alma_driver_outcome.specs.Parts.{shown_in}
+use Rattle.alma_driver_outcome.specs.Scope.{Causes}
+use Rattle.alma_driver_outcome.specs.Headline.{AsksToRun, ShowsResult, RunEnds, refuses, too_large, ended, ran_out}
+use Rattle.alma_driver_outcome.specs.Commands as shown
+use Rattle.alma_driver_outcome.specs.Commands.{AsksOf, ProgramEnds}
 use Rattle.alma_driver_outcome.specs.declared.end.End.{End}
 use Rattle.alma_driver_outcome.specs.declared.end.End.TheVariants.{StepsOut}
 use Rattle.alma_driver_outcome.proofs.RunLemmas.{code_means}
 use Rattle.alma_source.proofs.RefusalLemmas.{only_fault, one_program, refused_no_program}
 use Rattle.alma_driver_outcome.proofs.Unread.{due_alike}
+use Rattle.alma_driver_outcome.proofs.WholeCalls.{CameWhole, shows_end, whole_call}
 
 -- ---- a run on an input that is told where it is read
 
@@ -61,59 +55,52 @@ run_means left input p code steps stats due told short implements (past_input re
 
 -- ---- what a call shows
 
--- all that is due came
-pub record CameWhole (words : List (List ℕ)) (before after : Outside) (status : ℕ) : Type 0 where
-  pub due : Due
-  pub outcome : Outcome words before.files.told before.input.left due
-  pub shows : ShowsDue before after status (shown_in (file_of words) due)
-  pub takes : Takes due.reading before.input after.input
-
 -- a run stores nothing
-stores_nothing : (left : Option (List ℕ)) (p : Program) (steps : ℕ) (stats : Bool) (due : Due) → ProgramOutcome left p steps (Prints stats) due
-    → due.stored ≡ None
-stores_nothing left p steps stats due (ran code size is o) = by o
+stores_nothing : (left : Option (List ℕ)) (code : PlainCode) (steps : ℕ) (stats : Bool) (due : Due)
+    → InputOutcome left code steps (Prints stats) due → due.stored ≡ None
+stores_nothing left code steps stats due (unread quiet e) = ap (λ (d : Due). d.stored) e
+stores_nothing left code steps stats due (taken input reads l s e) = ap (λ (d : Due). d.stored) e
+stores_nothing left code steps stats due (past_input reads more e) = ap (λ (d : Due). d.stored) e
+
+-- a program that was run by such code shows its result, or a front of its prints
+pub program_ends : (words : List (List ℕ)) (p : Program) (input : List ℕ) (steps : ℕ) (stats : Bool) (before after : Outside) (status : ℕ)
+    (code : PlainCode) (due : Due) → (code_reads code ≡ true → before.input.left ≡ Some input) → length input ≤ input_limit
+    → Implements code p → ShowsDue before after status (shown_in (file_of words) due)
+    → InputOutcome before.input.left code steps (Prints stats) due → ProgramEnds words before after status p input steps stats
+program_ends words p input steps stats before after status code due told short implements h o = by m.shows
   where
-    by : InputOutcome left code steps (Prints stats) due → due.stored ≡ None
-    by (unread quiet e) = ap (λ (d : Due). d.stored) e
-    by (taken input reads l s e) = ap (λ (d : Due). d.stored) e
-    by (past_input reads more e) = ap (λ (d : Due). d.stored) e
-stores_nothing left p steps stats due (too_much_code size e) = ap (λ (d : Due). d.stored) e
+    m : MeansOn p input steps stats due
+    m = run_means before.input.left input p code steps stats due told short implements o
+
+    none : due.stored ≡ None
+    none = stores_nothing before.input.left code steps stats due o
+
+    by : run_laws.Shows p input steps due.out m.end → ProgramEnds words before after status p input steps stats
+    by (whole uncut r) =
+        let all : ShowsResult words stats (due.out, m.end) before after status = record {
+          uncut = uncut;
+          counts = m.counts;
+          counted = m.counted;
+          shows = shows_end words before after status due (told_end m.end m.counts) m.ends none h;
+        } in
+        shown.ended (subst (λ (x : List ℕ × events.End). ShowsResult words stats x before after status) (sym r) all)
+    by (front cut covers few) =
+        let out : due.end ≡ StepsOut m.counts = m.ends ∙ ap (λ (e : events.End). told_end e m.counts) cut in
+        shown.ran_out (record {
+          printed = due.out;
+          covers = covers;
+          few = few;
+          counts = m.counts;
+          counted = m.counted;
+          shows = shows_end words before after status due (StepsOut m.counts) out none h;
+        })
 
 module _ (words : List (List ℕ)) (source input : List ℕ) (steps : ℕ) (stats : Bool) (before after : Outside) (status : ℕ) where
-  -- what is due by its end and its bytes, where nothing is stored
-  shows_end : (due : Due) (end : End) → due.end ≡ end → due.stored ≡ None → ShowsDue before after status (shown_in (file_of words) due)
-      → ShowsEnd words before after status end due.out
-  shows_end due end e none h =
-      let file = file_of words in
-      subst (ShowsDue before after status)
-      (ap (λ (x : End). record { end = ending_in file x; out = due.out; stored = due.stored }) e
-      ∙ ap (λ (x : Option StoredFile). record { end = ending_in file end; out = due.out; stored = x }) none) h
-
   -- a program that was run
-  ends_meant : (p : Program) (due : Due) → IsProgramOf source p → size_of p ≤ size_limit → due.stored ≡ None
-      → ShowsDue before after status (shown_in (file_of words) due)
-      → MeansOn p input steps stats due → RunEnds words source input steps stats before after status
-  ends_meant p due is size none h m = by m.shows
-    where
-      by : run_laws.Shows p input steps due.out m.end → RunEnds words source input steps stats before after status
-      by (whole uncut r) =
-          let all : ShowsResult words stats (due.out, m.end) before after status = record {
-            uncut = uncut;
-            counts = m.counts;
-            counted = m.counted;
-            shows = shows_end due (told_end m.end m.counts) m.ends none h;
-          } in
-          ended p is size (subst (λ (x : List ℕ × events.End). ShowsResult words stats x before after status) (sym r) all)
-      by (front cut covers few) =
-          let out : due.end ≡ StepsOut m.counts = m.ends ∙ ap (λ (e : events.End). told_end e m.counts) cut in
-          ran_out p is size (record {
-            printed = due.out;
-            covers = covers;
-            few = few;
-            counts = m.counts;
-            counted = m.counted;
-            shows = shows_end due (StepsOut m.counts) out none h;
-          })
+  ends_meant : (p : Program) → IsProgramOf source p → size_of p ≤ size_limit → ProgramEnds words before after status p input steps stats
+      → RunEnds words source input steps stats before after status
+  ends_meant p is size (shown.ended h) = ended p is size h
+  ends_meant p is size (shown.ran_out h) = ran_out p is size h
 
   -- a program that was run on an input that is told where it is read, or is too large
   ends_program : (p : Program) (due : Due) → (program_reads p ≡ true → before.input.left ≡ Some input) → length input ≤ input_limit
@@ -121,8 +108,8 @@ module _ (words : List (List ℕ)) (source input : List ℕ) (steps : ℕ) (stat
       → ProgramOutcome before.input.left p steps (Prints stats) due
       → RunEnds words source input steps stats before after status
   ends_program p due told short is h (ran code size is_code o) =
-      ends_meant p due is size (stores_nothing before.input.left p steps stats due (ran code size is_code o)) h
-      (run_means before.input.left input p code steps stats due (λ r. told (sym is_code.reads ∙ r)) short is_code.implements o)
+      ends_meant p is size
+      (program_ends words p input steps stats before after status code due (λ r. told (sym is_code.reads ∙ r)) short is_code.implements h o)
   ends_program p due told short is h (too_much_code size e) =
       too_large p is size (subst (λ (d : Due). ShowsDue before after status (shown_in (file_of words) d)) e h)
 
@@ -141,68 +128,20 @@ module _ (words : List (List ℕ)) (source input : List ℕ) (steps : ℕ) (stat
   ends_of due a h (stopped end r e) = ends_refused due end e h r
   ends_of due a h (compiled p is o) = ends_program p due (a.given.left p is) a.given.input_short is h o
 
--- ---- what the words ask
-
--- the outcome of a request to run a source that is told and short
-source_run : (told : List ℕ → Told) (name source : List ℕ) (steps : ℕ) (stats : Bool) (left : Option (List ℕ)) (due : Due)
-    → told name ≡ Has source
-    → length source ≤ source_limit → RequestOutcome told left (Run name steps stats) due
-    → SourceOutcome source (λ p. ProgramOutcome left p steps (Prints stats)) due
-source_run told name source steps stats left due has short (absent n is gone e) =
-    let same : name ≡ n = cc is in
-    cc (sym has ∙ ap told same ∙ gone)
-source_run told name source steps stats left due has short (past_limit n is past e) =
-    let same : name ≡ n = cc is in
-    let more : MayPass (Has source) source_limit = subst (λ (t : Told). MayPass t source_limit) (ap told (sym same) ∙ has) past in
-    absurd (omega (arith, short, more))
-source_run told name source steps stats left due has short (fetched n bytes is may few o) =
-    let same : name ≡ n = cc is in
-    let one : source ≡ bytes = subst (λ (t : Told). MayHave t bytes) (ap told (sym same) ∙ has) may in
-    subst (λ (s : List ℕ). SourceOutcome s (λ p. ProgramOutcome left p steps (Prints stats)) due) (sym one) o
-source_run told name source steps stats left due has short (unfetched is o) = cc is
-
--- the outcome of words that ask for it
-pub words_run : (words : List (List ℕ)) (before : Outside) (source input : List ℕ) (steps : ℕ) (stats : Bool) (due : Due)
-    → AsksToRun words before source input steps stats
-    → Outcome words before.files.told before.input.left due
-    → SourceOutcome source (λ p. ProgramOutcome before.input.left p steps (Prints stats)) due
-words_run words before source input steps stats due a (bad_word k bad e) = absurd (bad.none (Run a.name steps stats, a.asks))
-words_run words before source input steps stats due a (asks r h o) =
-    let same : r ≡ Run a.name steps stats = one_request words r (Run a.name steps stats) h a.asks in
-    source_run before.files.told a.name source steps stats before.input.left due a.given.told a.given.source_short
-    (subst (λ (q : Request). RequestOutcome before.files.told before.input.left q due) same o)
-
--- its file is not missing
-not_lacking : (words : List (List ℕ)) (before : Outside) (source input : List ℕ) (steps : ℕ) (stats : Bool)
-    → AsksToRun words before source input steps stats
-    → Lacks words before.files.told → ⊥
-not_lacking words before source input steps stats a l =
-    let same : l.0 ≡ Run a.name steps stats = one_request words l.0 (Run a.name steps stats) l.2 a.asks in
-    let name : Some a.name ≡ Some l.1 = sym (ap read_by same) ∙ l.3 in
-    let one : a.name ≡ l.1 = cc name in
-    cc (sym a.given.told ∙ ap before.files.told one ∙ l.4)
-
 -- ---- the headline
 
--- what is due by what may come
-came : (words : List (List ℕ)) (before after : Outside) (status : ℕ)
-    → IsWhole (MayCome (file_of words) (IsOutcome words before)) before after status
-    → CameWhole words before after status
-came words before after status w =
-    record {
-      due = w.2.0;
-      outcome = w.2.1;
-      shows = subst (ShowsDue before after status) w.2.3 (record { status_is = w.3; out = w.4; err = w.5; files = w.6 });
-      takes = subst (λ (r : Reading). Takes r before.input after.input) w.2.2 w.7;
-    }
+-- what the words ask for
+pub asks_of : (words : List (List ℕ)) (before : Outside) (source input : List ℕ) (steps : ℕ) (stats : Bool)
+    (a : AsksToRun words before source input steps stats) → AsksOf words (Run a.name steps stats) before source
+asks_of words before source input steps stats a =
+    record { asks = a.asks; name = a.name; reads = refl; told = a.given.told; short = a.given.source_short }
 
 -- all that is due from a run came where nothing failed
 pub whole_run : (words : List (List ℕ)) (source input : List ℕ) (steps : ℕ) (stats : Bool) (before after : Outside) (status : ℕ)
-    → AsksToRun words before source input steps stats → Causes words before after status → IsUndisturbed before after status
-    → CameWhole words before after status
+    (a : AsksToRun words before source input steps stats) → Causes words before after status → IsUndisturbed before after status
+    → CameWhole words (Run a.name steps stats) source before after status
 whole_run words source input steps stats before after status a c u =
-    came words before after status
-    (call_is_whole program (scope_of words before) before after status c u (not_lacking words before source input steps stats a))
+    whole_call words (Run a.name steps stats) source before after status (asks_of words before source input steps stats a) c u
 
 -- what a run shows where nothing failed
 pub run_ends : (words : List (List ℕ)) (source input : List ℕ) (steps : ℕ) (stats : Bool) (before after : Outside) (status : ℕ)
@@ -210,8 +149,7 @@ pub run_ends : (words : List (List ℕ)) (source input : List ℕ) (steps : ℕ)
     → RunEnds words source input steps stats before after status
 run_ends words source input steps stats before after status a c u =
     let w = whole_run words source input steps stats before after status a c u in
-    ends_of words source input steps stats before after status w.due a w.shows
-    (words_run words before source input steps stats w.due a w.outcome)
+    ends_of words source input steps stats before after status w.due a w.shows w.outcome
 
 -- ---- enough steps
 

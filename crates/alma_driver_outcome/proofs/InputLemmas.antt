@@ -13,7 +13,7 @@ use Rattle.alma_driver_outcome.specs.declared.end.End.{End}
 use Rattle.alma_io.specs.Outside.{Outside, IsUndisturbed}
 use Rattle.alma_driver_outcome.specs.Showing.{Prints}
 use Rattle.alma_source.specs.Refusal.{IsProgramOf}
-use Rattle.alma_driver_outcome.specs.Outcome.{Due, Outcome, reading_of, InputOutcome, unread, taken, past_input, ProgramOutcome, ran}
+use Rattle.alma_driver_outcome.specs.Outcome.{Due, reading_of, InputOutcome, unread, taken, past_input, ProgramOutcome, ran}
 use Rattle.alma_driver_outcome.specs.Outcome.{too_much_code}
 use Rattle.alma_driver_outcome.specs.Outcome.{IsSourceEnd, refused, SourceOutcome, stopped, compiled}
 use Rattle.alma_plan.specs.Course.{Takes}
@@ -21,7 +21,7 @@ use Rattle.alma_plan.specs.Plan.{Reading, Finished}
 use Rattle.alma_source.proofs.RefusalLemmas.{one_program, refused_no_program}
 use Rattle.alma_driver_outcome.specs.Scope.{Causes}
 use Rattle.alma_driver_outcome.specs.Headline.{AsksToRun, IsInputLeft}
-use Rattle.alma_driver_outcome.proofs.HeadlineLemmas.{words_run, whole_run}
+use Rattle.alma_driver_outcome.proofs.HeadlineLemmas.{whole_run}
 
 -- nothing is left of what is told and was read to its end
 all_read : (input bytes : List ℕ) (old new : Option (List ℕ)) → old ≡ Some input → Consumes old new bytes → IsAtEnd new → new ≡ Some []
@@ -31,11 +31,12 @@ all_read input bytes (Some xs) (Some ys) told c d = ap Some d
 
 -- what becomes of the input where this is due and came
 input_left : (words : List (List ℕ)) (source input : List ℕ) (steps : ℕ) (stats : Bool) (before after : Outside) (due : Due) (p : Program)
-    → AsksToRun words before source input steps stats → Outcome words before.files.told before.input.left due
+    → AsksToRun words before source input steps stats
+    → SourceOutcome source (λ q. ProgramOutcome before.input.left q steps (Prints stats)) due
     → Takes due.reading before.input after.input → IsProgramOf source p → size_of p ≤ size_limit
     → IsInputLeft (program_reads p) before.input after.input
 input_left words source input steps stats before after due p a o takes is small =
-    by_source (words_run words before source input steps stats due a o)
+    by_source o
   where
     by_end : (end : End) → IsSourceEnd source end → IsInputLeft (program_reads p) before.input after.input
     by_end end (refused fault offset r e) = absurd (refused_no_program source fault offset p r is)

@@ -3,7 +3,9 @@ pub mod DriverLemmas
 pub mod RunLemmas
 pub mod CauseLemmas
 pub mod Unread
+pub mod WholeCalls
 pub mod HeadlineLemmas
 pub mod InputLemmas
 pub mod StoredLemmas
 pub mod ReportLemmas
+pub mod CommandLemmas

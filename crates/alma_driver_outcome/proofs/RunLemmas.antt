@@ -95,7 +95,7 @@ goes_run code input old new steps stats answer a b e h =
 -- ---- a run of code that implements a program
 
 -- the end of a machine that is left in a mode is told as what it shows
-told_is : (m : Mode) (line : ℕ) (counts : Option Counts) → mode_end m line counts ≡ told_end (shown_end m line) counts
+pub told_is : (m : Mode) (line : ℕ) (counts : Option Counts) → mode_end m line counts ≡ told_end (shown_end m line) counts
 told_is (Ended ended.Succeeded) line counts = refl
 told_is (Ended ended.Failed) line counts = refl
 told_is (Ended (ended.Fault fault)) line counts = refl

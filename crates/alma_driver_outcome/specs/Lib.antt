@@ -5,3 +5,4 @@ pub mod Outcome
 pub mod Parts
 pub mod Scope
 pub mod Headline
+pub mod Commands

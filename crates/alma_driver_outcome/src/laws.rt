@@ -6,6 +6,8 @@ ghost use Rattle.alma_source.specs.Refusal.{IsProgramOf};
 ghost use Rattle.alma_io.specs.Outside.{StoredFile, IsUndisturbed, Outside};
 ghost use Rattle.alma_driver_outcome.specs.Outcome.{Due, ProgramOutcome, CompileOutcome, SourceOutcome, Meant, TraceMeant, ListOutcome, ExecOutcome};
 ghost use Rattle.alma_driver_outcome.specs.Scope.{Causes};
+ghost use Rattle.alma_driver_outcome.specs.Commands.{AsksOf, CheckEnds, CompileEnds, GivesInput, ProgramEnds, TraceEnds};
+ghost use Rattle.alma_driver_words.specs.Words.{Check, Compile, Exec, Trace};
 ghost use Rattle.alma_driver_outcome.specs.Headline.{AsksToRun, IsInputLeft, RunEnds, ShowsResult};
 ghost use Rattle.alma_lower_implements.specs.Implements.{visit_steps};
 ghost use Rattle.alma_run_laws.specs.Stored.{SpellsCodeOf};
@@ -90,6 +92,50 @@ pub fn a_run_shows_what_its_source_means()
         (before after : Outside) (status : ℕ) → AsksToRun words before source input steps stats
         → Causes words before after status → IsUndisturbed before after status
         → RunEnds words source input steps stats before after status }
+{}
+
+/// A check of a source, where memory is found and nothing fails outside, refuses it for its one
+/// stated fault; or it is a program, and the check succeeds without a word.
+pub fn a_check_tells_its_source()
+    ensures shown { (words : List (List ℕ)) (name source : List ℕ) (before after : Outside)
+        (status : ℕ) → AsksOf words (Check name) before source
+        → Causes words before after status → IsUndisturbed before after status
+        → CheckEnds words before after status source }
+{}
+
+/// Compiling a source, where memory is found and nothing fails outside, refuses it for its one
+/// stated fault, or for its size; or stores an object that is read back as sound code that
+/// implements its program.
+pub fn a_compile_stores_code_of_its_source()
+    ensures shown { (words : List (List ℕ)) (name object source : List ℕ) (before after : Outside)
+        (status : ℕ) → AsksOf words (Compile name object) before source
+        → Causes words before after status → IsUndisturbed before after status
+        → CompileEnds words before after status source object }
+{}
+
+/// A trace of a source on an input, which is told where its program has a READ, where memory is
+/// found and nothing fails outside, refuses the source for its one stated fault, or for its size;
+/// or out gains the text of a run of sound code that implements its program, and the call ends as
+/// the meaning does, or its steps ran out.
+pub fn a_trace_tells_a_run_of_its_source()
+    ensures shown { (words : List (List ℕ)) (name source input : List ℕ) (steps : ℕ)
+        (watch : List (List ℕ)) (before after : Outside) (status : ℕ)
+        → AsksOf words (Trace name steps watch) before source
+        → ((p : Program) → IsProgramOf source p → GivesInput before p input)
+        → Causes words before after status → IsUndisturbed before after status
+        → TraceEnds words before after status source input steps watch }
+{}
+
+/// A run of an object that spells code of a program, where memory is found and nothing fails
+/// outside, prints what the program means, and ends in its success, failure or fault; or its steps
+/// ran out, and it printed a front of that, which covers one visit for each 32 steps.
+pub fn an_exec_shows_what_its_program_means()
+    ensures shown { (words : List (List ℕ)) (object bytes input : List ℕ) (steps : ℕ)
+        (stats : Bool) (p : Program) (before after : Outside) (status : ℕ)
+        → AsksOf words (Exec object steps stats) before bytes → SpellsCodeOf p bytes
+        → GivesInput before p input
+        → Causes words before after status → IsUndisturbed before after status
+        → ProgramEnds words before after status p input steps stats }
 {}
 
 /// A run of a source, where memory is found and nothing fails outside, reads the input whole where

@@ -255,7 +255,7 @@ module _ (program : List ℕ) (scope : Scope) (dues : HasOwnDues scope) (before 
 
   starved_quiet : ReadsOnly scope.may before.input after.input → after.input.faults ≡ before.input.faults
   starved_quiet (inl e) = ap (λ (x : SourceSide). x.faults) e
-  starved_quiet (inr (reads, lost, quiet)) = quiet
+  starved_quiet (inr (reads, begun)) = begun.1
 
   reads_shown_of : (end : Ending) → CourseTo end → ReportOf end → ReadsGrew before after → WriteFailed before after ⊎ (status ≡ 6)
   reads_shown_of end course (unsaid s f) grew = inl (inr (inl f.risen.1))

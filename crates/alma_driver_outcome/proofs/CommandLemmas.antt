@@ -1,0 +1,149 @@
+-- Calls that check, compile or trace a source, or run an object, show what its program means.
+use Rattle.std.proofs.Common.{◌≡◌, ◌≤◌, ◌∙◌, ℕ, List, [], length, ap, sym, subst, arith}
+use Rattle.std.specs.Prelude.{Bool, true, false, Option, None, Some}
+use Rattle.alma_base.specs.Limits.{input_limit}
+use Rattle.alma_io.specs.Outside.{Outside, IsUndisturbed, MayBeLeft, StoredFile}
+use Rattle.alma_io.specs.Whole.{MayHaveMore}
+use Rattle.alma_ir.specs.Tree.{Program}
+use Rattle.alma_code.specs.Plain.{PlainCode}
+use Rattle.alma_code.specs.Reads.{code_reads}
+use Rattle.alma_code.specs.TraceText.{trace_text}
+use Rattle.alma_verify.specs.Bytes.{object_code}
+use Rattle.alma_lower.specs.CodeFor.{IsCodeFor}
+use Rattle.alma_lower_implements.specs.Implements.{state_after, line_in}
+use Rattle.alma_lower_sound.specs.Reads.{program_reads}
+use Rattle.alma_run_laws.specs.Shown.{size_of, shown_end}
+use Rattle.alma_run_laws.specs.Stored.{SpellsCodeOf}
+use Rattle.alma_run_laws.proofs.Meant.{code_shows}
+use Rattle.alma_run_laws.proofs.Spelled.{spelled_sound}
+use Rattle.alma_driver_words.specs.Words.{Check, Compile, Exec, Trace, file_of}
+use Rattle.alma_plan.specs.Undisturbed.{ShowsDue}
+use Rattle.alma_source.specs.Refusal.{IsProgramOf}
+use Rattle.alma_source.proofs.RefusalLemmas.{only_fault}
+use Rattle.alma_driver_outcome.specs.Commands.{AsksOf, GivesInput, ShowsRefusal, ShowsSize, CheckEnds, CompileEnds, TraceEnds, ProgramEnds}
+use Rattle.alma_driver_outcome.specs.Commands.{ShowsTrace, input_by, accepts, stores, traces}
+use Rattle.alma_driver_outcome.specs.Commands as shown
+use Rattle.alma_driver_outcome.specs.Headline.{ShowsEnd}
+use Rattle.alma_driver_outcome.specs.Outcome.{Due, silent, code_due, InputOutcome, unread, taken, past_input, ProgramOutcome, ran}
+use Rattle.alma_driver_outcome.specs.Outcome.{too_much_code, IsSourceEnd, refused, SourceOutcome, stopped, compiled, CheckOutcome}
+use Rattle.alma_driver_outcome.specs.Outcome.{CompileOutcome, made, past_size, ExecOutcome, opened, unopened, executed, unsound, told_end}
+use Rattle.alma_driver_outcome.specs.Parts.{shown_in}
+use Rattle.alma_driver_outcome.specs.Scope.{Causes}
+use Rattle.alma_driver_outcome.specs.Showing.{Traces}
+use Rattle.alma_driver_outcome.specs.declared.end.End.{End}
+use Rattle.alma_driver_outcome.proofs.HeadlineLemmas.{program_ends}
+use Rattle.alma_driver_outcome.proofs.RunLemmas.{told_is}
+use Rattle.alma_driver_outcome.proofs.StoredLemmas.{spells_stored}
+use Rattle.alma_driver_outcome.proofs.WholeCalls.{whole_call}
+
+module _ (words : List (List ℕ)) (before after : Outside) (status : ℕ) where
+  -- what is due came
+  abbrev Came : Due → Type 0
+  Came due = ShowsDue before after status (shown_in (file_of words) due)
+
+  -- a source that is refused
+  refusal_of : (source : List ℕ) (due : Due) (end : End) → due ≡ silent end → Came due → IsSourceEnd source end
+      → ShowsRefusal words before after status source
+  refusal_of source due end d h (refused fault offset r e) = record {
+    fault = fault;
+    offset = offset;
+    only = only_fault source fault offset r;
+    shows = subst Came (d ∙ ap silent e) h;
+  }
+
+  -- a source that is checked
+  check_of : (source : List ℕ) (due : Due) → Came due → SourceOutcome source CheckOutcome due → CheckEnds words before after status source
+  check_of source due h (stopped end r e) = shown.CheckEnds.refuses (refusal_of source due end e h r)
+  check_of source due h (compiled p is e) = accepts p is (subst Came e h)
+
+  -- a source that is compiled
+  compile_of : (source object : List ℕ) (due : Due) → Came due → SourceOutcome source (λ p. CompileOutcome p object) due
+      → CompileEnds words before after status source object
+  compile_of source object due h (stopped end r e) = shown.CompileEnds.refuses (refusal_of source due end e h r)
+  compile_of source object due h (compiled p is (past_size size e)) =
+      shown.CompileEnds.too_large (record { program = p; is = is; large = size; shows = subst Came e h })
+  compile_of source object due h (compiled p is (made code bytes size is_code is_object fits e)) =
+      let stored : StoredFile = record { name = object; bytes = bytes } in
+      let spells = spells_stored p object due stored (made code bytes size is_code is_object fits e) (ap (λ (d : Due). d.stored) e) in
+      stores p bytes is size spells (subst Came e h)
+
+  module _ (p : Program) (code : PlainCode) (is_code : IsCodeFor p code) (steps : ℕ) (watch : List (List ℕ)) (due : Due) (h : Came due) where
+    -- a trace of a run on this input
+    trace_on : (input : List ℕ) → length input ≤ input_limit → due ≡ code_due code input steps (Traces watch)
+        → ShowsTrace words before after status p input steps watch
+    trace_on input short e =
+        let s = state_after code input steps in
+        let end = shown_end s.mode (line_in code s) in
+        record {
+          code = code;
+          is_code = is_code;
+          end = end;
+          meant = code_shows code p input steps is_code.implements short;
+          shows = subst (λ (x : End). ShowsEnd words before after status x (trace_text code input watch steps))
+          (told_is s.mode (line_in code s) None) (subst Came e h);
+        }
+
+    -- the same by whether the program reads
+    trace_by : (input : List ℕ) → GivesInput before p input → InputOutcome before.input.left code steps (Traces watch) due
+        → ShowsTrace words before after status p (input_by (code_reads code) input) steps watch
+    trace_by input given (unread quiet e) =
+        subst (λ (r : Bool). ShowsTrace words before after status p (input_by r input) steps watch) (sym quiet)
+        (trace_on [] (omega arith) e)
+    trace_by input given (taken other reads l short e) =
+        let left = given.left (sym is_code.reads ∙ reads) in
+        let same : input ≡ other = subst (λ (o : Option (List ℕ)). MayBeLeft o other) left l in
+        subst (λ (r : Bool). ShowsTrace words before after status p (input_by r input) steps watch) (sym reads)
+        (trace_on input given.short (e ∙ ap (λ (i : List ℕ). code_due code i steps (Traces watch)) (sym same)))
+    trace_by input given (past_input reads more e) =
+        let left = given.left (sym is_code.reads ∙ reads) in
+        let past : MayHaveMore (Some input) input_limit = subst (λ (o : Option (List ℕ)). MayHaveMore o input_limit) left more in
+        absurd (omega (arith, given.short, past))
+
+  -- a source that is traced
+  trace_of : (source input : List ℕ) (steps : ℕ) (watch : List (List ℕ)) (due : Due)
+      → ((p : Program) → IsProgramOf source p → GivesInput before p input) → Came due
+      → SourceOutcome source (λ p. ProgramOutcome before.input.left p steps (Traces watch)) due
+      → TraceEnds words before after status source input steps watch
+  trace_of source input steps watch due given h (stopped end r e) = shown.TraceEnds.refuses (refusal_of source due end e h r)
+  trace_of source input steps watch due given h (compiled p is (too_much_code size e)) =
+      shown.TraceEnds.too_large (record { program = p; is = is; large = size; shows = subst Came e h })
+  trace_of source input steps watch due given h (compiled p is (ran code size is_code o)) =
+      traces p is size
+      (subst (λ (r : Bool). ShowsTrace words before after status p (input_by r input) steps watch) is_code.reads
+      (trace_by p code is_code steps watch due h input (given p is) o))
+
+  -- an object of a program that is run
+  exec_of : (p : Program) (bytes input : List ℕ) (steps : ℕ) (stats : Bool) (due : Due) → SpellsCodeOf p bytes
+      → GivesInput before p input → Came due → ExecOutcome before.input.left bytes steps stats due
+      → ProgramEnds words before after status p input steps stats
+  exec_of p bytes input steps stats due is given h (opened clean (executed c o)) =
+      program_ends words p input steps stats before after status (object_code bytes) due (λ r. given.left (sym is.code.reads ∙ r))
+      given.short is.code.implements h o
+  exec_of p bytes input steps stats due is given h (opened clean (unsound fault c e)) = cc (spelled_sound p bytes is, c)
+  exec_of p bytes input steps stats due is given h (unopened fault c e) = cc (is.clean, c)
+
+  -- ---- where nothing failed
+
+  pub check_ends : (name source : List ℕ) → AsksOf words (Check name) before source → Causes words before after status
+      → IsUndisturbed before after status → CheckEnds words before after status source
+  check_ends name source a c u =
+      let w = whole_call words (Check name) source before after status a c u in check_of source w.due w.shows w.outcome
+
+  pub compile_ends : (name object source : List ℕ) → AsksOf words (Compile name object) before source
+      → Causes words before after status → IsUndisturbed before after status → CompileEnds words before after status source object
+  compile_ends name object source a c u =
+      let w = whole_call words (Compile name object) source before after status a c u in compile_of source object w.due w.shows w.outcome
+
+  pub trace_ends : (name source input : List ℕ) (steps : ℕ) (watch : List (List ℕ)) → AsksOf words (Trace name steps watch) before source
+      → ((p : Program) → IsProgramOf source p → GivesInput before p input) → Causes words before after status
+      → IsUndisturbed before after status → TraceEnds words before after status source input steps watch
+  trace_ends name source input steps watch a given c u =
+      let w = whole_call words (Trace name steps watch) source before after status a c u in
+      trace_of source input steps watch w.due given w.shows w.outcome
+
+  pub exec_ends : (object bytes input : List ℕ) (steps : ℕ) (stats : Bool) (p : Program) → AsksOf words (Exec object steps stats) before bytes
+      → SpellsCodeOf p bytes → GivesInput before p input → Causes words before after status
+      → IsUndisturbed before after status → ProgramEnds words before after status p input steps stats
+  exec_ends object bytes input steps stats p a is given c u =
+      let w = whole_call words (Exec object steps stats) bytes before after status a c u in
+      exec_of p bytes input steps stats w.due is given w.shows w.outcome

@@ -1,0 +1,100 @@
+-- What calls come to that check, compile or trace a source, or run an object, in the words of a reader of the meaning.
+use Rattle.std.specs.Prelude.{◌≡◌, ◌<◌, ◌≤◌, suc, Bool, true, false, List, ℕ, [], length, None, Some}
+use Rattle.alma_base.specs.Limits.{size_limit, input_limit}
+use Rattle.alma_io.specs.Files.{Has}
+use Rattle.alma_io.specs.Outside.{Outside}
+use Rattle.alma_ir.specs.Tree.{Program}
+use Rattle.alma_mean.specs.Events.{End}
+use Rattle.alma_mean.specs.Meaning.{result}
+use Rattle.alma_code.specs.Plain.{PlainCode}
+use Rattle.alma_code.specs.TraceText.{trace_text}
+use Rattle.alma_lower.specs.CodeFor.{IsCodeFor}
+use Rattle.alma_lower_implements.specs.Implements.{printed_by}
+use Rattle.alma_lower_sound.specs.Reads.{program_reads}
+use Rattle.alma_driver_words.specs.Words.{Request, Asks, file_of}
+use Rattle.alma_plan.specs.Undisturbed.{ShowsDue}
+use Rattle.alma_run_laws.specs.Shown.{size_of, Shows}
+use Rattle.alma_run_laws.specs.Stored.{SpellsCodeOf}
+use Rattle.alma_source.specs.Refusal.{IsOnlyFault, IsProgramOf, place_of}
+use Rattle.alma_source.specs.declared.fault.SourceFault.{SourceFault}
+use Rattle.alma_driver_outcome.specs.Words.{limit_of, IsReadBy}
+use Rattle.alma_driver_outcome.specs.Outcome.{told_end}
+use Rattle.alma_driver_outcome.specs.Ends.{ending_in}
+use Rattle.alma_driver_outcome.specs.Headline.{ShowsEnd, ShowsResult, ShowsFront}
+use Rattle.alma_driver_outcome.specs.declared.end.End.TheVariants.{Refused, Succeeded, TooMuchCode}
+
+-- ---- what is asked for
+
+-- the words ask for this, and the file that it reads has these bytes, within their length
+pub record AsksOf (words : List (List ℕ)) (request : Request) (before : Outside) (bytes : List ℕ) : Type 0 where
+  pub asks : Asks words request
+  pub name : List ℕ
+  pub reads : IsReadBy request name
+  pub told : before.files.told name ≡ Has bytes
+  pub short : length bytes ≤ limit_of request
+
+-- where the program reads, this input is left; it is within its length
+pub record GivesInput (before : Outside) (p : Program) (input : List ℕ) : Type 0 where
+  pub left : program_reads p ≡ true → before.input.left ≡ Some input
+  pub short : length input ≤ input_limit
+
+-- the input on which a program runs, by whether it reads: that, or an empty one
+abbrev pub input_by : (reads : Bool) → (input : List ℕ) → List ℕ
+input_by true input = input
+input_by false input = []
+
+-- ---- what is shown
+
+module _ (words : List (List ℕ)) (before after : Outside) (status : ℕ) where
+  -- the source has one fault, and is refused for that at its place
+  pub record ShowsRefusal (source : List ℕ) : Type 0 where
+    pub fault : SourceFault
+    pub offset : ℕ
+    pub only : IsOnlyFault source fault offset
+    pub shows : ShowsEnd words before after status (Refused fault (place_of source offset)) []
+
+  -- the source is a program whose size is past its limit, and is refused with that number
+  pub record ShowsSize (source : List ℕ) : Type 0 where
+    pub program : Program
+    pub is : IsProgramOf source program
+    pub large : size_limit < size_of program
+    pub shows : ShowsEnd words before after status (TooMuchCode (size_of program)) []
+
+  -- What a call shows that asks to check a source: its fault, or success.
+  pub data CheckEnds (source : List ℕ) : Type 0 where
+    refuses : ShowsRefusal source → CheckEnds source
+    accepts : (p : Program) → IsProgramOf source p → ShowsEnd words before after status (Succeeded None) [] → CheckEnds source
+
+  -- What a call shows that asks to compile a source: its fault or its size; or these bytes are stored under the name of the
+  -- object, and what is read from them is sound code that implements the program of the source.
+  pub data CompileEnds (source object : List ℕ) : Type 0 where
+    refuses : ShowsRefusal source → CompileEnds source object
+    too_large : ShowsSize source → CompileEnds source object
+    stores : (p : Program) (bytes : List ℕ) → IsProgramOf source p → size_of p ≤ size_limit → SpellsCodeOf p bytes
+        → ShowsDue before after status (record {
+          end = ending_in (file_of words) (Succeeded None);
+          out = [];
+          stored = Some (record { name = object; bytes = bytes });
+        })
+        → CompileEnds source object
+
+  -- A program was traced on an input for so many steps: out gained the text of a run of code that implements it. The prints of
+  -- that run and the end that is shown are those of the meaning, or the steps ran out.
+  pub record ShowsTrace (p : Program) (input : List ℕ) (steps : ℕ) (watch : List (List ℕ)) : Type 0 where
+    pub code : PlainCode
+    pub is_code : IsCodeFor p code
+    pub end : End
+    pub meant : Shows p input steps (printed_by code input steps) end
+    pub shows : ShowsEnd words before after status (told_end end None) (trace_text code input watch steps)
+
+  -- What a call shows that asks to trace a source.
+  pub data TraceEnds (source input : List ℕ) (steps : ℕ) (watch : List (List ℕ)) : Type 0 where
+    refuses : ShowsRefusal source → TraceEnds source input steps watch
+    too_large : ShowsSize source → TraceEnds source input steps watch
+    traces : (p : Program) → IsProgramOf source p → size_of p ≤ size_limit
+        → ShowsTrace p (input_by (program_reads p) input) steps watch → TraceEnds source input steps watch
+
+  -- What a call shows that runs a program: its result, or a front of its prints.
+  pub data ProgramEnds (p : Program) (input : List ℕ) (steps : ℕ) (stats : Bool) : Type 0 where
+    ended : ShowsResult words stats (result (suc steps) p input) before after status → ProgramEnds p input steps stats
+    ran_out : ShowsFront words stats p input steps before after status → ProgramEnds p input steps stats
