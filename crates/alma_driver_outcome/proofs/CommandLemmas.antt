@@ -1,6 +1,6 @@
 -- Calls that check, compile or trace a source, or run an object, show what its program means.
 use Rattle.std.proofs.Common.{◌≡◌, ◌≤◌, ◌∙◌, ℕ, List, [], length, ap, sym, subst, arith}
-use Rattle.std.specs.Prelude.{Bool, true, false, Option, None, Some}
+use Rattle.std.specs.Prelude.{Bool, Option, None, Some}
 use Rattle.alma_base.specs.Limits.{input_limit}
 use Rattle.alma_io.specs.Outside.{Outside, IsUndisturbed, MayBeLeft, StoredFile}
 use Rattle.alma_io.specs.Whole.{MayHaveMore}
@@ -11,8 +11,7 @@ use Rattle.alma_code.specs.TraceText.{trace_text}
 use Rattle.alma_verify.specs.Bytes.{object_code}
 use Rattle.alma_lower.specs.CodeFor.{IsCodeFor}
 use Rattle.alma_lower_implements.specs.Implements.{state_after, line_in}
-use Rattle.alma_lower_sound.specs.Reads.{program_reads}
-use Rattle.alma_run_laws.specs.Shown.{size_of, shown_end}
+use Rattle.alma_run_laws.specs.Shown.{shown_end}
 use Rattle.alma_run_laws.specs.Stored.{SpellsCodeOf}
 use Rattle.alma_run_laws.proofs.Meant.{code_shows}
 use Rattle.alma_run_laws.proofs.Spelled.{spelled_sound}
@@ -26,7 +25,7 @@ use Rattle.alma_driver_outcome.specs.Commands as shown
 use Rattle.alma_driver_outcome.specs.Headline.{ShowsEnd}
 use Rattle.alma_driver_outcome.specs.Outcome.{Due, silent, code_due, InputOutcome, unread, taken, past_input, ProgramOutcome, ran}
 use Rattle.alma_driver_outcome.specs.Outcome.{too_much_code, IsSourceEnd, refused, SourceOutcome, stopped, compiled, CheckOutcome}
-use Rattle.alma_driver_outcome.specs.Outcome.{CompileOutcome, made, past_size, ExecOutcome, opened, unopened, executed, unsound, told_end}
+use Rattle.alma_driver_outcome.specs.Outcome.{CompileOutcome, made, past_size, ExecOutcome, opened, unopened, executed, unsound}
 use Rattle.alma_driver_outcome.specs.Parts.{shown_in}
 use Rattle.alma_driver_outcome.specs.Scope.{Causes}
 use Rattle.alma_driver_outcome.specs.Showing.{Traces}
@@ -80,7 +79,7 @@ module _ (words : List (List ℕ)) (before after : Outside) (status : ℕ) where
           end = end;
           meant = code_shows code p input steps is_code.implements short;
           shows = subst (λ (x : End). ShowsEnd words before after status x (trace_text code input watch steps))
-          (told_is s.mode (line_in code s) None) (subst Came e h);
+              (told_is s.mode (line_in code s) None) (subst Came e h);
         }
 
     -- the same by whether the program reads

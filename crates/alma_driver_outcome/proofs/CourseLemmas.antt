@@ -1,5 +1,5 @@
 -- How parts of a call go by what they do to each side, and parts inside others.
-use Rattle.std.proofs.Common.{◌≡◌, ℕ, List, ap, sym, subst, refl, inl, inr}
+use Rattle.std.proofs.Common.{◌≡◌, ℕ, List, ap, sym, subst, refl, inl}
 use Rattle.std.specs.Prelude.{None}
 use Rattle.alma_io.specs.Fronts.{AppendsFront}
 use Rattle.alma_io.specs.Sides.{SinkSide, SourceSide, FilesSide}

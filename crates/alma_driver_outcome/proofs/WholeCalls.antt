@@ -1,5 +1,5 @@
 -- Calls whose request reads a file that is told, and short: all that is due from its bytes came where nothing failed.
-use Rattle.std.proofs.Common.{◌≡◌, ◌≤◌, ◌∙◌, ℕ, List, [], length, ap, sym, subst, arith}
+use Rattle.std.proofs.Common.{◌≡◌, ◌≤◌, ◌∙◌, ℕ, List, length, ap, sym, subst, arith}
 use Rattle.std.specs.Prelude.{Option, None, Some}
 use Rattle.alma_io.specs.Files.{Told, Has, MayHave, MayPass}
 use Rattle.alma_driver_words.specs.Words.{Request, file_of}
