@@ -9,3 +9,4 @@ pub mod InputLemmas
 pub mod StoredLemmas
 pub mod ReportLemmas
 pub mod CommandLemmas
+pub mod ShowingLemmas

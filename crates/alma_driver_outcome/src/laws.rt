@@ -20,7 +20,7 @@ ghost use Rattle.alma_code.specs.TraceText.{watched_words};
 ghost use Rattle.alma_ir.specs.Tree as tree;
 ghost use Rattle.alma_lower_sound.specs.Reads.{program_reads};
 ghost use Rattle.alma_run_laws.specs.Shown.{size_of};
-ghost use Rattle.alma_driver_outcome.specs.Showing.{Prints, Traces};
+ghost use Rattle.alma_driver_outcome.specs.Showing.{Prints, ShowsValuesBack, Traces};
 ghost use Rattle.alma_ir.specs.Tree.{Program};
 ghost use Rattle.alma_mean.specs.Events.{first, end_of, visit_count, CutOff};
 ghost use Rattle.alma_mean.specs.Meaning.{ev_program, result as meant_at};
@@ -80,6 +80,13 @@ pub fn a_trace_shows_the_variables_of_its_source()
         → watched_words code names s ≡ map (variable_word s.now p.globals) names }
     ensures routines { (code : PlainCode) (p : Program) (r : ℕ) → KeepsNames code p
         → (plain.routine_at code r).name ≡ (tree.routine_at p r).name }
+{}
+
+/// What a trace shows of watched names where a branch fails is what they were at its choice point:
+/// over any number of steps between the line `choice` of an entry and its line `fail`, on any code.
+pub fn a_failure_shows_the_values_at_its_choice()
+    ensures values { (code : PlainCode) (input : List ℕ) (names : List (List ℕ))
+        → ShowsValuesBack code input names }
 {}
 
 /// A run of a source on an input, which is told where its program has a READ, and any other one
