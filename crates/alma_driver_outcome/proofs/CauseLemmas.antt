@@ -19,8 +19,8 @@ use Rattle.alma_driver_outcome.specs.Words.{read_by, limit_of}
 use Rattle.alma_driver_outcome.specs.Showing.{Showing, Prints, Traces, counts_shown}
 use Rattle.alma_driver_outcome.specs.declared.end.Counts.{Counts}
 use Rattle.alma_driver_outcome.specs.declared.end.End.{End}
-use Rattle.alma_driver_outcome.specs.declared.end.End.TheVariants.{ReadFault}
-use Rattle.alma_driver_outcome.specs.Ends.{mode_end, counts_in, status_of, program}
+use Rattle.alma_plan.specs.declared.stop.Stop.TheVariants as stop
+use Rattle.alma_driver_outcome.specs.Ends.{mode_end, counts_in, status_of, program, end_of_stop}
 use Rattle.alma_driver_outcome.specs.Outcome as outcome
 use Rattle.alma_driver_outcome.specs.Outcome.{Due, InputOutcome, taken, past_input, ProgramOutcome, ran, too_much_code}
 use Rattle.alma_driver_outcome.specs.Outcome.{CompileOutcome, made, past_size, IsSourceEnd, refused, SourceOutcome, stopped, compiled}
@@ -108,7 +108,7 @@ own_file left (Sample lines) bytes due o = own_sample lines due o
 
 -- a read fault is due only where the file is missing, and without a print or a store
 abbrev IsAbsence : List (List ℕ) → (List ℕ → Told) → Due → Type 0
-IsAbsence words told due = Lacks words told × (due ≡ outcome.silent ReadFault)
+IsAbsence words told due = Lacks words told × (due ≡ outcome.silent (end_of_stop stop.Read))
 
 request_dues : (told : List ℕ → Told) (left : Option (List ℕ)) (words : List (List ℕ)) (r : Request) (due : Due) → Asks words r
     → RequestOutcome told left r due → IsAbsence words told due ⊎ IsOwn due
@@ -125,7 +125,7 @@ outcome_dues told left words due (asks r h o) = request_dues told left words r d
 -- where the file is missing a read fault is due
 request_absent : (told : List ℕ → Told) (left : Option (List ℕ)) (r : Request) (name : List ℕ) (due : Due) → read_by r ≡ Some name
     → told name ≡ Missing
-    → RequestOutcome told left r due → due.end ≡ ReadFault
+    → RequestOutcome told left r due → due.end ≡ end_of_stop stop.Read
 request_absent told left r name due is none (absent other same gone e) = ap (λ (d : Due). d.end) e
 request_absent told left r name due is none (past_limit other same past e) =
     let one : name ≡ other = cc (is, same) in
@@ -137,7 +137,7 @@ request_absent told left r name due is none (outcome.unfetched same o) = cc (is,
 
 outcome_absent : (told : List ℕ → Told) (left : Option (List ℕ)) (words : List (List ℕ)) (due : Due) → Lacks words told
     → Outcome words told left due
-    → due.end ≡ ReadFault
+    → due.end ≡ end_of_stop stop.Read
 outcome_absent told left words due l (bad_word k bad e) = absurd (bad.none (l.0, l.2))
 outcome_absent told left words due l (asks r k o) =
     let is : read_by r ≡ Some l.1 = subst (λ (q : Request). read_by q ≡ Some l.1) (one_request words l.0 r l.2 k) l.3 in

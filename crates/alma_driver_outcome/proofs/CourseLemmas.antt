@@ -10,11 +10,11 @@ use Rattle.alma_plan.specs.Course.{starved_within, done}
 use Rattle.alma_plan.specs.Plan as plan
 use Rattle.alma_plan.specs.Plan.{Reading, Kept}
 use Rattle.alma_plan.proofs.Courses.{course_map, course_starved, files_same, gains_none}
-use Rattle.alma_driver_outcome.specs.Ends.{ending_in, program}
+use Rattle.alma_driver_outcome.specs.Ends.{ending_in, program, end_of_stop}
 use Rattle.alma_driver_outcome.specs.Outcome.{Due, silent}
 use Rattle.alma_driver_outcome.specs.Parts.{Goes, MayCome, MayShow, NoFile, Runs, Serves, Works, shown_in}
 use Rattle.alma_driver_outcome.specs.declared.end.End.{End}
-use Rattle.alma_driver_outcome.specs.declared.end.End.TheVariants.{WriteFault, Memory}
+use Rattle.alma_plan.specs.declared.stop.Stop.TheVariants as stop
 
 -- ---- what becomes of out
 
@@ -36,16 +36,16 @@ pub goes_whole : (P : Due → Type 0) (due : Due) (a b : SinkSide) (end : End) �
 goes_whole P due a b end o e none out = λ file. whole (shown_in file due) (due, o, refl) (ap (ending_in file) e) none out
 
 -- a write failed within it
-pub goes_cut : (P : Due → Type 0) (due : Due) (a b : SinkSide) → P due → due.stored ≡ None → FailsWithin a b due.out → Goes P a b WriteFault
+pub goes_cut : (P : Due → Type 0) (due : Due) (a b : SinkSide) → P due → due.stored ≡ None → FailsWithin a b due.out → Goes P a b (end_of_stop stop.Write)
 goes_cut P due a b o none out = λ file. cut_short (shown_in file due) (due, o, refl) none refl out
 
 -- memory ran out within it
 pub goes_within : (P : Due → Type 0) (due : Due) (a b : SinkSide) → P due → AppendsFront a.written b.written due.out → b.faults ≡ a.faults
-    → Goes P a b Memory
+    → Goes P a b (end_of_stop stop.Memory)
 goes_within P due a b o out quiet = λ file. hungry_within (shown_in file due) (due, o, refl) refl out quiet
 
 -- or before the first print
-pub goes_starved : (P : Due → Type 0) (a : SinkSide) → Goes P a a Memory
+pub goes_starved : (P : Due → Type 0) (a : SinkSide) → Goes P a a (end_of_stop stop.Memory)
 goes_starved P a = λ file. hungry refl (gains_none a)
 
 -- an end without a print
@@ -98,7 +98,7 @@ runs_still P kept i a b end g =
     runs_by P i i (λ due o. subst (λ (r : Reading). Takes r i i) (sym (kept due o)) refl) (λ file. inl refl) a b end g
 
 -- memory was wanted before anything was done
-pub runs_starved : (P : Due → Type 0) (i : SourceSide) (a : SinkSide) → Runs P i i a a Memory
+pub runs_starved : (P : Due → Type 0) (i : SourceSide) (a : SinkSide) → Runs P i i a a (end_of_stop stop.Memory)
 runs_starved P i a = λ f file. course_starved program NoFile (MayCome file P) f i a
 
 -- an end without a print or a store
@@ -107,7 +107,7 @@ runs_silent P i a end o = λ f file.
     done Kept (shown_in file (silent end)) (silent end, o, refl, refl) refl refl (files_same f) refl (gains_none a)
 
 -- the same of what stores
-pub works_starved : (P : Due → Type 0) (f : FilesSide) → Works P f f Memory
+pub works_starved : (P : Due → Type 0) (f : FilesSide) → Works P f f (end_of_stop stop.Memory)
 works_starved P f = λ input out. runs_starved P input out f
 
 pub works_silent : (P : Due → Type 0) (f : FilesSide) (end : End) → P (silent end) → Works P f f end

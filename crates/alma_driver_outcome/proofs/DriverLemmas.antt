@@ -47,6 +47,7 @@ use Rattle.alma_plan.specs.Programs.{Stores, sense, store_plan, unless_large}
 use Rattle.alma_plan.specs.Refusals.{fetch_stop, read_stop}
 use Rattle.alma_plan.specs.declared.end.ProgramEnd.{ProgramEnd}
 use Rattle.alma_plan.specs.declared.end.ProgramEnd.TheVariants as ended
+use Rattle.alma_plan.specs.declared.refusal.Refusal.TheVariants as refusal
 use Rattle.alma_plan.specs.declared.stop.Stop.TheVariants as stop
 use Rattle.alma_plan.proofs.Courses.{course_map, course_starved, files_same, gains_none, was_left}
 use Rattle.alma_driver_outcome.specs.Outcome.{Due, due_of, silent, storing, code_due, long_input, reading_of, InputOutcome, unread}
@@ -58,8 +59,7 @@ use Rattle.alma_driver_outcome.specs.Outcome.{Outcome, bad_word, asks, AskToRead
 use Rattle.alma_driver_words.specs.declared.words.WordsError.{WordsError}
 use Rattle.alma_driver_words.specs.declared.words.WordsError.TheVariants as words
 use Rattle.alma_driver_outcome.specs.declared.end.End.{End}
-use Rattle.alma_driver_outcome.specs.declared.end.End.TheVariants.{Succeeded, BadWord, Refused, ReadFault}
-use Rattle.alma_driver_outcome.specs.declared.end.End.TheVariants.{Memory, BadObject, BadCode, TooLong, TooMuchCode}
+use Rattle.alma_driver_outcome.specs.declared.end.End.TheVariants.{Succeeded, BadSource, TooMuchCode, Refused}
 use Rattle.alma_driver_outcome.specs.Parts.{Goes, MayCome, NoFile, Runs, Serves, Works, shown_in}
 use Rattle.alma_driver_outcome.proofs.CourseLemmas.{goes_map, goes_silent, goes_starved, serves_behind, runs_map, runs_by, runs_still}
 use Rattle.alma_driver_outcome.proofs.CourseLemmas.{runs_starved, runs_silent, works_map, works_starved, works_silent}
@@ -129,10 +129,10 @@ place_at line column = record { line = line; column = column }
 
 -- a source that is refused
 pub stop_refused : (source : List ℕ) (fault : SourceFault) (offset : ℕ) (place : Place) → IsRefused source fault offset
-    → place.line ≡ line_at source offset → place.column ≡ column_at source offset → IsStop source (Refused fault place)
+    → place.line ≡ line_at source offset → place.column ≡ column_at source offset → IsStop source (BadSource fault place)
 stop_refused source fault offset place h line column =
     let same = ap (λ n. place_at n place.column) line ∙ ap (place_at (line_at source offset)) column in
-    inr (refused fault offset h (ap (Refused fault) same))
+    inr (refused fault offset h (ap (BadSource fault) same))
 
 pub runs_stopped : (source : List ℕ) (P : Program → Due → Type 0) (i : SourceSide) (a : SinkSide) (end : End) → IsStop source end
     → Runs (SourceOutcome source P) i i a a end
@@ -161,7 +161,7 @@ goes_stopped source P a end (inr h) = goes_silent (SourceOutcome source P) a end
 -- why a program has no code
 pub data IsUnlowered (p : Program) (error : LowerError) : Type 0 where
   large : size_limit < size_of p → lower_end error ≡ TooMuchCode (size_of p) → IsUnlowered p error
-  starved : lower_end error ≡ Memory → IsUnlowered p error
+  starved : lower_end error ≡ end_of_stop stop.Memory → IsUnlowered p error
 
 pub unlowered : (p : Program) (error : LowerError)
     → (size_limit < size_of p → not_lowered error ≡ not_lowered (lower.TooMuchCode (size_of p)))
@@ -203,8 +203,8 @@ goes_listed bytes code a b end clean is same g =
 
 -- bytes that are no object
 pub goes_not_listed : (bytes : List ℕ) (fault : ObjectFault) (a : SinkSide) → object_fault bytes ≡ Some fault
-    → Goes (ListOutcome bytes) a a (BadObject fault)
-goes_not_listed bytes fault a is = goes_silent (ListOutcome bytes) a (BadObject fault) (no_object fault is refl)
+    → Goes (ListOutcome bytes) a a (Refused (refusal.BadObject fault))
+goes_not_listed bytes fault a is = goes_silent (ListOutcome bytes) a (Refused (refusal.BadObject fault)) (no_object fault is refl)
 
 -- listing comes to one outcome
 pub one_listing : (bytes : List ℕ) (first second : Due) → ListOutcome bytes first → ListOutcome bytes second → first ≡ second
@@ -213,7 +213,7 @@ one_listing bytes first second (listed clean is e) (no_object fault some e') = c
 one_listing bytes first second (no_object fault some e) (listed clean is e') = cc (some, clean)
 one_listing bytes first second (no_object fault some e) (no_object other some' e') =
     let same : fault ≡ other = cc (some, some') in
-    e ∙ ap (λ f. silent (BadObject f)) same ∙ sym e'
+    e ∙ ap (λ f. silent (Refused (refusal.BadObject f))) same ∙ sym e'
 
 -- ---- running an object
 
@@ -226,9 +226,9 @@ runs_executed code steps stats i j a b end clean g =
 -- code that is not sound
 pub runs_unsound : (code : PlainCode) (steps : ℕ) (stats : Bool) (fault : VerifyFault) (i : SourceSide) (a : SinkSide)
     → code_fault code ≡ Some fault
-    → Runs (CodeOutcome i.left code steps stats) i i a a (BadCode fault)
+    → Runs (CodeOutcome i.left code steps stats) i i a a (Refused (refusal.BadCode fault))
 runs_unsound code steps stats fault i a is =
-    runs_silent (CodeOutcome i.left code steps stats) i a (BadCode fault) (unsound fault is refl)
+    runs_silent (CodeOutcome i.left code steps stats) i a (Refused (refusal.BadCode fault)) (unsound fault is refl)
 
 -- an object whose code was run
 pub runs_opened : (bytes : List ℕ) (code : PlainCode) (steps : ℕ) (stats : Bool) (i j : SourceSide) (a b : SinkSide) (end : End)
@@ -242,9 +242,9 @@ runs_opened bytes code steps stats i j a b end clean same g =
 -- bytes that are none
 pub runs_unopened : (bytes : List ℕ) (steps : ℕ) (stats : Bool) (fault : ObjectFault) (i : SourceSide) (a : SinkSide)
     → object_fault bytes ≡ Some fault
-    → Runs (ExecOutcome i.left bytes steps stats) i i a a (BadObject fault)
+    → Runs (ExecOutcome i.left bytes steps stats) i i a a (Refused (refusal.BadObject fault))
 runs_unopened bytes steps stats fault i a is =
-    runs_silent (ExecOutcome i.left bytes steps stats) i a (BadObject fault) (unopened fault is refl)
+    runs_silent (ExecOutcome i.left bytes steps stats) i a (Refused (refusal.BadObject fault)) (unopened fault is refl)
 
 -- running code on an input that is told comes to one outcome
 one_input : (input : List ℕ) (code : PlainCode) (steps : ℕ) (showing : Showing) (first second : Due)
@@ -272,7 +272,7 @@ one_code_run input code steps stats first second (executed c o) (unsound fault c
 one_code_run input code steps stats first second (unsound fault c e) (executed c' o') = cc (c, c')
 one_code_run input code steps stats first second (unsound fault c e) (unsound other c' e') =
     let same : fault ≡ other = cc (c, c') in
-    e ∙ ap (λ f. silent (BadCode f)) same ∙ sym e'
+    e ∙ ap (λ f. silent (Refused (refusal.BadCode f))) same ∙ sym e'
 
 -- and so does running an object
 pub one_execution : (input bytes : List ℕ) (steps : ℕ) (stats : Bool) (first second : Due)
@@ -284,7 +284,7 @@ one_execution input bytes steps stats first second (opened c o) (unopened fault 
 one_execution input bytes steps stats first second (unopened fault c e) (opened c' o') = cc (c, c')
 one_execution input bytes steps stats first second (unopened fault c e) (unopened other c' e') =
     let same : fault ≡ other = cc (c, c') in
-    e ∙ ap (λ f. silent (BadObject f)) same ∙ sym e'
+    e ∙ ap (λ f. silent (Refused (refusal.BadObject f))) same ∙ sym e'
 
 -- ---- the files
 
@@ -409,11 +409,11 @@ pub serves_unfetched : (f g : FilesSide) (r : Request) (name : List ℕ) (fault 
     → IsFetched (f.told name) name (limit_of r) f.fetch_faults g.fetch_faults (Err fault)
     → Serves (IsReadBy r) (RequestOutcome f.told i.left r) f g i i a a (end_of_stop (fetch_stop fault))
 serves_unfetched f g r name fetch.Absent i a is s h = λ file.
-    frame.done Kept (shown_in file (silent ReadFault)) (silent ReadFault, absent name is h.0 refl, refl, refl) refl h.1 s refl
+    frame.done Kept (shown_in file (silent (end_of_stop stop.Read))) (silent (end_of_stop stop.Read), absent name is h.0 refl, refl, refl) refl h.1 s refl
     (gains_none a)
 serves_unfetched f g r name fetch.Failed i a is s h = λ file. frame.unfetched name is refl (h.0, h.1) s refl (gains_none a)
 serves_unfetched f g r name fetch.TooLong i a is s h = λ file.
-    frame.done Kept (shown_in file (silent TooLong)) (silent TooLong, past_limit name is h.0 refl, refl, refl) refl h.1 s refl
+    frame.done Kept (shown_in file (silent (end_of_stop stop.TooLong))) (silent (end_of_stop stop.TooLong), past_limit name is h.0 refl, refl, refl) refl h.1 s refl
     (gains_none a)
 serves_unfetched f g r name fetch.Memory i a is s h = λ file.
     frame.starved refl h s (inl refl) (gains_none a)
@@ -438,7 +438,7 @@ serves_alone f g r i j a b end is s =
 pub serves_bad : (words : List (List ℕ)) (f : FilesSide) (error : WordsError) (i : SourceSide) (a : SinkSide)
     → Reads words (Err error) → Serves (AskToRead words) (Outcome words f.told i.left) f f i i a a (words_end error)
 serves_bad ws f (words.Bad k) i a h = λ file.
-    frame.done Kept (shown_in file (silent (BadWord k))) (silent (BadWord k), bad_word k h refl, refl, refl) refl refl (files_same f) refl
+    frame.done Kept (shown_in file (silent (Refused (refusal.BadWord k)))) (silent (Refused (refusal.BadWord k)), bad_word k h refl, refl, refl) refl refl (files_same f) refl
     (gains_none a)
 serves_bad ws f words.Memory i a h = λ file. course_starved program (AskToRead ws) (MayCome file (Outcome ws f.told i.left)) f i a
 

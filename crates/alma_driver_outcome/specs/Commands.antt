@@ -21,7 +21,7 @@ use Rattle.alma_driver_outcome.specs.Words.{limit_of, IsReadBy}
 use Rattle.alma_driver_outcome.specs.Outcome.{told_end}
 use Rattle.alma_driver_outcome.specs.Ends.{ending_in}
 use Rattle.alma_driver_outcome.specs.Headline.{ShowsEnd, ShowsResult, ShowsFront}
-use Rattle.alma_driver_outcome.specs.declared.end.End.TheVariants.{Refused, Succeeded, TooMuchCode}
+use Rattle.alma_driver_outcome.specs.declared.end.End.TheVariants.{BadSource, Succeeded, TooMuchCode}
 
 -- ---- what is asked for
 
@@ -51,7 +51,7 @@ module _ (words : List (List ℕ)) (before after : Outside) (status : ℕ) where
     pub fault : SourceFault
     pub offset : ℕ
     pub only : IsOnlyFault source fault offset
-    pub shows : ShowsEnd words before after status (Refused fault (place_of source offset)) []
+    pub shows : ShowsEnd words before after status (BadSource fault (place_of source offset)) []
 
   -- the source is a program whose size is past its limit, and is refused with that number
   pub record ShowsSize (source : List ℕ) : Type 0 where

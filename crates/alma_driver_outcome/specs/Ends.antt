@@ -12,16 +12,16 @@ use Rattle.alma_driver_words.specs.declared.words.WordsError.{WordsError}
 use Rattle.alma_driver_words.specs.declared.words.WordsError.TheVariants as words
 use Rattle.alma_plan.specs.Plan.{Ending, ending_of, line_of}
 use Rattle.alma_plan.specs.Programs.{fault_words}
-use Rattle.alma_plan.specs.Refusals.{object_fault_text, rule_fault_text}
+use Rattle.alma_plan.specs.Refusals.{refusal_status, refusal_text as text_of_refusal}
 use Rattle.alma_plan.specs.declared.end.ProgramEnd.{ProgramEnd}
 use Rattle.alma_plan.specs.declared.end.ProgramEnd.TheVariants as program_end
+use Rattle.alma_plan.specs.declared.refusal.Refusal.TheVariants as refusal
 use Rattle.alma_plan.specs.declared.stop.Stop.{Stop}
 use Rattle.alma_plan.specs.declared.stop.Stop.TheVariants as stop
 use Rattle.alma_source.specs.Texts.{refusal_text}
 use Rattle.alma_driver_outcome.specs.declared.end.Counts.{Counts}
 use Rattle.alma_driver_outcome.specs.declared.end.End.{End}
-use Rattle.alma_driver_outcome.specs.declared.end.End.TheVariants.{Succeeded, Failed, BadWord, Refused, Faulted, StepsOut, ReadFault}
-use Rattle.alma_driver_outcome.specs.declared.end.End.TheVariants.{WriteFault, Memory, BadObject, BadCode, TooLong, TooMuchCode}
+use Rattle.alma_driver_outcome.specs.declared.end.End.TheVariants.{Succeeded, Failed, Faulted, StepsOut, BadSource, TooMuchCode, Refused}
 
 -- the name in which the program speaks
 abbrev pub program : List ℕ
@@ -31,17 +31,11 @@ program = codes "alma"
 abbrev pub status_of : End → ℕ
 status_of (Succeeded counts) = exit.succeeded
 status_of (Failed counts) = exit.failed
-status_of (BadWord k) = exit.bad_word
-status_of (Refused fault place) = exit.refused
 status_of (Faulted fault line counts) = exit.faulted
 status_of (StepsOut counts) = exit.steps_out
-status_of ReadFault = exit.read_fault
-status_of WriteFault = exit.write_fault
-status_of Memory = exit.no_memory
-status_of (BadObject fault) = exit.bad_object
-status_of (BadCode fault) = exit.bad_object
-status_of TooLong = exit.too_long
+status_of (BadSource fault place) = exit.refused
 status_of (TooMuchCode size) = exit.too_much_code
+status_of (Refused why) = refusal_status why
 
 -- a line on err in the name of the program
 abbrev pub says : (text : List ℕ) → List ℕ
@@ -69,17 +63,11 @@ counts_with end = None
 abbrev pub end_text : (file : List ℕ) → End → List ℕ
 end_text file (Succeeded counts) = []
 end_text file (Failed counts) = []
-end_text file (BadWord k) = says (codes "bad word " ++ decimal k)
-end_text file (Refused fault place) = refusal_text file fault place
 end_text file (Faulted fault line counts) = says (fault_words fault line)
 end_text file (StepsOut counts) = says (codes "steps out")
-end_text file ReadFault = says (codes "read fault")
-end_text file WriteFault = says (codes "write fault")
-end_text file Memory = says (codes "out of memory")
-end_text file (BadObject fault) = says (object_fault_text fault)
-end_text file (BadCode fault) = says (rule_fault_text fault)
-end_text file TooLong = says (codes "too long")
+end_text file (BadSource fault place) = refusal_text file fault place
 end_text file (TooMuchCode size) = says (codes "too much code " ++ decimal size)
+end_text file (Refused why) = says (text_of_refusal why)
 
 -- the text of an end: counts come first
 abbrev pub text_of : (file : List ℕ) → End → List ℕ
@@ -107,31 +95,28 @@ mode_end Going line counts = StepsOut counts
 mode_end Failing line counts = StepsOut counts
 mode_end Stuck line counts = StepsOut counts
 
+-- the end of a call that was stopped
+abbrev pub end_of_stop : Stop → End
+end_of_stop cause = Refused (refusal.Stopped cause)
+
 -- the end of a call by the answer of its run
 abbrev pub run_end : RunEnd → (line : ℕ) → Option Counts → End
 run_end run.Succeeded line counts = Succeeded counts
 run_end run.Failed line counts = Failed counts
 run_end (run.Fault fault) line counts = Faulted fault line counts
 run_end run.StepsOut line counts = StepsOut counts
-run_end run.WriteFault line counts = WriteFault
-run_end run.Memory line counts = Memory
+run_end run.WriteFault line counts = end_of_stop stop.Write
+run_end run.Memory line counts = end_of_stop stop.Memory
 
 -- the end of a program that was not compiled
 abbrev pub lower_end : LowerError → End
 lower_end (lower.TooMuchCode size) = TooMuchCode size
-lower_end lower.Memory = Memory
+lower_end lower.Memory = end_of_stop stop.Memory
 
 -- the end of words that are no request
 abbrev pub words_end : WordsError → End
-words_end (words.Bad k) = BadWord k
-words_end words.Memory = Memory
-
--- the end of a call that was stopped
-abbrev pub end_of_stop : Stop → End
-end_of_stop stop.Read = ReadFault
-end_of_stop stop.Write = WriteFault
-end_of_stop stop.Memory = Memory
-end_of_stop stop.TooLong = TooLong
+words_end (words.Bad k) = Refused (refusal.BadWord k)
+words_end words.Memory = end_of_stop stop.Memory
 
 -- the end of a program that is compiled and stored, or run without counts
 abbrev pub end_of_program : ProgramEnd → End

@@ -16,7 +16,7 @@ use Rattle.alma_driver_outcome.specs.Outcome.{AreCounts, told_end}
 use Rattle.alma_driver_outcome.specs.Ends.{ending_in}
 use Rattle.alma_driver_outcome.specs.declared.end.Counts.{Counts}
 use Rattle.alma_driver_outcome.specs.declared.end.End as told
-use Rattle.alma_driver_outcome.specs.declared.end.End.TheVariants.{Refused, StepsOut, TooMuchCode}
+use Rattle.alma_driver_outcome.specs.declared.end.End.TheVariants.{BadSource, StepsOut, TooMuchCode}
 
 -- the words ask to run a file for so many steps; it has this source, and where its program reads, this input is left
 pub record AsksToRun (words : List (List ℕ)) (before : Outside) (source input : List ℕ) (steps : ℕ) (stats : Bool) : Type 0 where
@@ -56,7 +56,7 @@ pub data RunEnds (words : List (List ℕ)) (source input : List ℕ) (steps : �
   where
     -- the source has this fault at this place, and no other: it is refused for that
     refuses : (fault : SourceFault) (offset : ℕ) → IsOnlyFault source fault offset
-        → ShowsEnd words before after status (Refused fault (place_of source offset)) []
+        → ShowsEnd words before after status (BadSource fault (place_of source offset)) []
         → RunEnds words source input steps stats before after status
     -- the source is a program whose size is past its limit: it is refused with that number
     too_large : (p : Program) → IsProgramOf source p → size_limit < size_of p

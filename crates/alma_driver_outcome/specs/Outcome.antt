@@ -23,16 +23,17 @@ use Rattle.alma_lower_implements.specs.Implements.{state_after, line_in}
 use Rattle.alma_run_laws.specs.Shown.{Shows, size_of}
 use Rattle.alma_lower.specs.CodeFor.{IsCodeFor}
 use Rattle.alma_plan.specs.Plan.{Reading, Kept, Finished, Passed}
+use Rattle.alma_plan.specs.declared.refusal.Refusal.TheVariants as refusal
+use Rattle.alma_plan.specs.declared.stop.Stop.TheVariants as stop
 use Rattle.alma_driver_words.specs.Words.{Request, Check, Compile, Listing, Run, Exec, Trace, Sample, Asks, IsBadWord, default_steps}
 use Rattle.alma_driver_outcome.specs.Words.{read_by, limit_of, IsReadBy}
 use Rattle.alma_driver_outcome.specs.Showing.{Showing, Prints, Traces, counts_shown, text_shown}
-use Rattle.alma_driver_outcome.specs.Ends.{mode_end, counts_in, status_of, sample_line}
+use Rattle.alma_driver_outcome.specs.Ends.{mode_end, counts_in, status_of, sample_line, end_of_stop}
 use Rattle.alma_source.specs.Refusal.{IsRefused, IsProgramOf, place_of}
 use Rattle.alma_source.specs.declared.fault.SourceFault.{SourceFault}
 use Rattle.alma_driver_outcome.specs.declared.end.Counts.{Counts}
 use Rattle.alma_driver_outcome.specs.declared.end.End.{End}
-use Rattle.alma_driver_outcome.specs.declared.end.End.TheVariants.{Succeeded, Failed, Faulted, BadWord, Refused, StepsOut, ReadFault}
-use Rattle.alma_driver_outcome.specs.declared.end.End.TheVariants.{Memory, BadObject, BadCode, TooLong, TooMuchCode}
+use Rattle.alma_driver_outcome.specs.declared.end.End.TheVariants.{Succeeded, Failed, Faulted, StepsOut, BadSource, TooMuchCode, Refused}
 
 -- what is due from a call: its end, the bytes that it writes to out, what it stores, and what becomes of the input
 pub record Due : Type 0 where
@@ -75,7 +76,7 @@ code_due code input steps showing = record {
 
 -- an input that was read and is too long
 abbrev pub long_input : Due
-long_input = record { end = TooLong; out = []; stored = None; reading = Passed }
+long_input = record { end = end_of_stop stop.TooLong; out = []; stored = None; reading = Passed }
 
 -- What a run of code comes to, by what is left of the input: where the code reads, the whole input is read before its
 -- first step, and may be too long; where it does not, it runs on an empty one.
@@ -149,7 +150,7 @@ pub data TraceMeant (left : Option (List ℕ)) (p : Program) (steps : ℕ) (due 
 
 -- the end of a source that is no program: its refusal
 pub data IsSourceEnd (source : List ℕ) (end : End) : Type 0 where
-  refused : (fault : SourceFault) (offset : ℕ) → IsRefused source fault offset → end ≡ Refused fault (place_of source offset)
+  refused : (fault : SourceFault) (offset : ℕ) → IsRefused source fault offset → end ≡ BadSource fault (place_of source offset)
       → IsSourceEnd source end
 
 -- what a source comes to: that end, or what its program comes to
@@ -165,17 +166,17 @@ CheckOutcome p due = due ≡ silent (Succeeded None)
 pub data ListOutcome (bytes : List ℕ) (due : Due) : Type 0 where
   listed : object_fault bytes ≡ None → IsObject (object_code bytes) bytes → due ≡ due_of (Succeeded None) (list_text (object_code bytes))
       → ListOutcome bytes due
-  no_object : (fault : ObjectFault) → object_fault bytes ≡ Some fault → due ≡ silent (BadObject fault) → ListOutcome bytes due
+  no_object : (fault : ObjectFault) → object_fault bytes ≡ Some fault → due ≡ silent (Refused (refusal.BadObject fault)) → ListOutcome bytes due
 
 -- What running code of a stranger for so many steps comes to: what it comes to in so many steps, or the first rule that it breaks.
 pub data CodeOutcome (left : Option (List ℕ)) (code : PlainCode) (steps : ℕ) (stats : Bool) (due : Due) : Type 0 where
   executed : code_fault code ≡ None → InputOutcome left code steps (Prints stats) due → CodeOutcome left code steps stats due
-  unsound : (fault : VerifyFault) → code_fault code ≡ Some fault → due ≡ silent (BadCode fault) → CodeOutcome left code steps stats due
+  unsound : (fault : VerifyFault) → code_fault code ≡ Some fault → due ≡ silent (Refused (refusal.BadCode fault)) → CodeOutcome left code steps stats due
 
 -- what running the code of an object comes to; or the first fault of the format of bytes that are none
 pub data ExecOutcome (left : Option (List ℕ)) (bytes : List ℕ) (steps : ℕ) (stats : Bool) (due : Due) : Type 0 where
   opened : object_fault bytes ≡ None → CodeOutcome left (object_code bytes) steps stats due → ExecOutcome left bytes steps stats due
-  unopened : (fault : ObjectFault) → object_fault bytes ≡ Some fault → due ≡ silent (BadObject fault)
+  unopened : (fault : ObjectFault) → object_fault bytes ≡ Some fault → due ≡ silent (Refused (refusal.BadObject fault))
       → ExecOutcome left bytes steps stats due
 
 -- ---- requests
@@ -204,9 +205,9 @@ FileOutcome left (Sample lines) none due = SampleOutcome lines due
 
 -- What a request comes to, by what the files tell: its file is missing, or too long, or has these bytes; or it reads none.
 pub data RequestOutcome (told : List ℕ → Told) (left : Option (List ℕ)) (request : Request) (due : Due) : Type 0 where
-  absent : (name : List ℕ) → read_by request ≡ Some name → told name ≡ Missing → due ≡ silent ReadFault
+  absent : (name : List ℕ) → read_by request ≡ Some name → told name ≡ Missing → due ≡ silent (end_of_stop stop.Read)
       → RequestOutcome told left request due
-  past_limit : (name : List ℕ) → read_by request ≡ Some name → MayPass (told name) (limit_of request) → due ≡ silent TooLong
+  past_limit : (name : List ℕ) → read_by request ≡ Some name → MayPass (told name) (limit_of request) → due ≡ silent (end_of_stop stop.TooLong)
       → RequestOutcome told left request due
   fetched : (name bytes : List ℕ) → read_by request ≡ Some name → MayHave (told name) bytes → length bytes ≤ limit_of request
       → FileOutcome left request bytes due → RequestOutcome told left request due
@@ -214,7 +215,7 @@ pub data RequestOutcome (told : List ℕ → Told) (left : Option (List ℕ)) (r
 
 -- what words come to, by what the files tell and what is left of the input
 pub data Outcome (words : List (List ℕ)) (told : List ℕ → Told) (left : Option (List ℕ)) (due : Due) : Type 0 where
-  bad_word : (k : ℕ) → IsBadWord words k → due ≡ silent (BadWord k) → Outcome words told left due
+  bad_word : (k : ℕ) → IsBadWord words k → due ≡ silent (Refused (refusal.BadWord k)) → Outcome words told left due
   asks : (request : Request) → Asks words request → RequestOutcome told left request due → Outcome words told left due
 
 -- the words ask to read this file
@@ -229,4 +230,4 @@ Lacks words told = (request : Request) × (name : List ℕ) × Asks words reques
 
 -- memory ran out, or the source is no program
 abbrev pub IsStop : (source : List ℕ) → End → Type 0
-IsStop source end = (end ≡ Memory) ⊎ IsSourceEnd source end
+IsStop source end = (end ≡ end_of_stop stop.Memory) ⊎ IsSourceEnd source end

@@ -3,17 +3,15 @@ ghost use Rattle.std.specs.Prelude.{◌≡◌};
 ghost use Rattle.alma_driver_outcome.specs.Ends.{status_of, counts_with, run_end, lower_end, words_end, end_of_stop, end_of_program};
 
 use alma_base::{Place, RunFault};
-use alma_code::VerifyFault;
 use alma_driver_words::{WordsError, exit};
 use alma_lower::LowerError;
 use alma_machine::RunEnd;
-use alma_object::ObjectFault;
-use alma_plan::{ProgramEnd, Stop};
+use alma_plan::{ProgramEnd, Refusal, Stop};
 use alma_source::SourceFault;
 
 /// What a run counted: the steps that it made, the choice entries that it pushed, and those that it
 /// popped.
-#[derive(Clone, Copy, Debug, PartialEq, Eq)]
+#[derive(Clone, Copy)]
 pub struct Counts {
     pub steps: u64,
     pub choices: u64,
@@ -21,34 +19,22 @@ pub struct Counts {
 }
 
 /// How a call ends, but for what becomes of its text on err.
-#[derive(Clone, Copy, Debug, PartialEq, Eq)]
+#[derive(Clone, Copy)]
 pub enum End {
     /// The call succeeded; with the counts of its run, where they are asked for.
     Succeeded(Option<Counts>),
     /// The program failed.
     Failed(Option<Counts>),
-    /// The first word, from 1, that cannot stand where it is, or one more than there are.
-    BadWord(usize),
-    /// The source is no program: its fault, and the place of it.
-    Refused(SourceFault, Place),
     /// The run stopped in a fault, at this line; 0 where none is known.
     Faulted(RunFault, u32, Option<Counts>),
     /// All steps were made, and the run was not at its end.
     StepsOut(Option<Counts>),
-    /// The file is missing, or a fetch or a read of the input failed.
-    ReadFault,
-    /// A write or a store failed.
-    WriteFault,
-    /// Memory ran out.
-    Memory,
-    /// The bytes are no object: their fault.
-    BadObject(ObjectFault),
-    /// The code of the object is not sound: the first rule that it breaks, and where.
-    BadCode(VerifyFault),
-    /// The source, the object or the input is past its greatest length.
-    TooLong,
+    /// The source is no program: its fault, and the place of it.
+    BadSource(SourceFault, Place),
     /// The size of the program, which is past the greatest.
     TooMuchCode(u64),
+    /// The call was refused as every program may refuse.
+    Refused(Refusal),
 }
 
 impl End {
@@ -59,16 +45,11 @@ impl End {
         match self {
             End::Succeeded(_) => exit::SUCCEEDED,
             End::Failed(_) => exit::FAILED,
-            End::BadWord(_) => exit::BAD_WORD,
-            End::Refused(_, _) => exit::REFUSED,
             End::Faulted(_, _, _) => exit::FAULTED,
             End::StepsOut(_) => exit::STEPS_OUT,
-            End::ReadFault => exit::READ_FAULT,
-            End::WriteFault => exit::WRITE_FAULT,
-            End::Memory => exit::NO_MEMORY,
-            End::BadObject(_) | End::BadCode(_) => exit::BAD_OBJECT,
-            End::TooLong => exit::TOO_LONG,
+            End::BadSource(_, _) => exit::REFUSED,
             End::TooMuchCode(_) => exit::TOO_MUCH_CODE,
+            End::Refused(refusal) => refusal.status(),
         }
     }
 
@@ -95,8 +76,8 @@ pub fn end_of(run: RunEnd, line: u32, counts: Option<Counts>) -> End
         RunEnd::Failed => End::Failed(counts),
         RunEnd::Fault(fault) => End::Faulted(fault, line, counts),
         RunEnd::StepsOut => End::StepsOut(counts),
-        RunEnd::WriteFault => End::WriteFault,
-        RunEnd::Memory => End::Memory,
+        RunEnd::WriteFault => End::Refused(Refusal::Stopped(Stop::Write)),
+        RunEnd::Memory => End::Refused(Refusal::Stopped(Stop::Memory)),
     }
 }
 
@@ -106,7 +87,7 @@ impl From<LowerError> for End {
     fn from(error: LowerError) -> Self {
         match error {
             LowerError::TooMuchCode(size) => End::TooMuchCode(size),
-            LowerError::Memory => End::Memory,
+            LowerError::Memory => End::Refused(Refusal::Stopped(Stop::Memory)),
         }
     }
 }
@@ -116,8 +97,8 @@ impl From<WordsError> for End {
 
     fn from(error: WordsError) -> Self {
         match error {
-            WordsError::Bad(word) => End::BadWord(word),
-            WordsError::Memory => End::Memory,
+            WordsError::Bad(word) => End::Refused(Refusal::BadWord(word)),
+            WordsError::Memory => End::Refused(Refusal::Stopped(Stop::Memory)),
         }
     }
 }
@@ -126,12 +107,7 @@ impl From<Stop> for End {
     ghost from_gives = { λ stop end. end ≡ end_of_stop stop };
 
     fn from(stop: Stop) -> Self {
-        match stop {
-            Stop::Read => End::ReadFault,
-            Stop::Write => End::WriteFault,
-            Stop::Memory => End::Memory,
-            Stop::TooLong => End::TooLong,
-        }
+        End::Refused(Refusal::Stopped(stop))
     }
 }
 
@@ -148,7 +124,7 @@ impl From<ProgramEnd> for End {
             ProgramEnd::Stored => End::Succeeded(None),
             ProgramEnd::StepsOut => End::StepsOut(None),
             ProgramEnd::TooMuchCode(size) => End::TooMuchCode(size),
-            ProgramEnd::Stopped(stop) => End::from(stop),
+            ProgramEnd::Stopped(stop) => End::Refused(Refusal::Stopped(stop)),
         }
     }
 }

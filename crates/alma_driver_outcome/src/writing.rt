@@ -9,9 +9,7 @@ use crate::end::{Counts, End};
 use alma_base::Status;
 use alma_driver_words::exit;
 use alma_io::{Failed, Sink};
-use alma_plan::{
-    Refusal, Stop, refuse, tell_fault, tell_number, tell_refusal, tell_steps_out, write_text,
-};
+use alma_plan::{refuse, tell_fault, tell_refusal, tell_steps_out, tell_too_much_code, write_text};
 use itoa::Buffer;
 
 /// The name of the program.
@@ -67,19 +65,11 @@ fn tell<E: Sink>(err: &mut E, file: &str, end: End) -> Status
     match end {
         End::Succeeded(_) => Status(exit::SUCCEEDED),
         End::Failed(_) => Status(exit::FAILED),
-        End::BadWord(word) => refuse(err, PROGRAM, Refusal::BadWord(word)),
-        End::Refused(fault, place) => tell_refusal(err, file.as_bytes(), fault, place),
         End::Faulted(fault, line, _) => tell_fault(err, PROGRAM, fault, line),
         End::StepsOut(_) => tell_steps_out(err, PROGRAM),
-        End::ReadFault => refuse(err, PROGRAM, Refusal::Stopped(Stop::Read)),
-        End::WriteFault => refuse(err, PROGRAM, Refusal::Stopped(Stop::Write)),
-        End::Memory => refuse(err, PROGRAM, Refusal::Stopped(Stop::Memory)),
-        End::BadObject(fault) => refuse(err, PROGRAM, Refusal::BadObject(fault)),
-        End::BadCode(fault) => refuse(err, PROGRAM, Refusal::BadCode(fault)),
-        End::TooLong => refuse(err, PROGRAM, Refusal::Stopped(Stop::TooLong)),
-        End::TooMuchCode(size) => {
-            tell_number(err, PROGRAM, exit::TOO_MUCH_CODE, b"too much code ", size)
-        }
+        End::BadSource(fault, place) => tell_refusal(err, file.as_bytes(), fault, place),
+        End::TooMuchCode(size) => tell_too_much_code(err, PROGRAM, size),
+        End::Refused(refusal) => refuse(err, PROGRAM, refusal),
     }
 }
 

@@ -14,8 +14,8 @@ use Rattle.alma_driver_outcome.specs.Showing.{Prints}
 use Rattle.alma_driver_outcome.specs.Outcome.{Due, due_of, ProgramOutcome, SourceOutcome, IsSampled, SampleOutcome, summed}
 use Rattle.alma_driver_outcome.specs.Parts.{Goes, MayCome, NoFile, Runs}
 use Rattle.alma_driver_outcome.specs.declared.end.End.{End}
-use Rattle.alma_driver_outcome.specs.declared.end.End.TheVariants.{Succeeded, Failed, BadWord, Refused, Faulted, StepsOut, ReadFault}
-use Rattle.alma_driver_outcome.specs.declared.end.End.TheVariants.{WriteFault, Memory, BadObject, BadCode, TooLong, TooMuchCode}
+use Rattle.alma_driver_outcome.specs.declared.end.End.TheVariants.{Succeeded, Failed, Faulted, StepsOut, BadSource, TooMuchCode, Refused}
+use Rattle.alma_plan.specs.declared.refusal.Refusal.{Refusal}
 use Rattle.alma_driver_outcome.proofs.CourseLemmas.{goes_map}
 
 -- the sides of a sink and of a source by their parts
@@ -25,26 +25,18 @@ sink_side written faults = record { written = written; faults = faults }
 abbrev pub source_side : Option (List ℕ) → ℕ → SourceSide
 source_side left faults = record { left = left; faults = faults }
 
--- the end is none of want of memory, and of faults of the outside
+-- the end is none of those to which every program may come
 pub record IsOwn (end : End) : Type 0 where
-  pub not_read : end ≡ ReadFault → ⊥
-  pub not_write : end ≡ WriteFault → ⊥
-  pub not_memory : end ≡ Memory → ⊥
+  pub not_refused : (refusal : Refusal) → end ≡ Refused refusal → ⊥
 
 own_statuses : (end : End) → IsOwn end → IsOwnStatus (status_of end)
 own_statuses (Succeeded counts) own = own_status 0 (inl (omega arith))
 own_statuses (Failed counts) own = own_status 1 (inl (omega arith))
-own_statuses (BadWord k) own = own_status 2 (inl (omega arith))
-own_statuses (Refused fault place) own = own_status 3 (inl (omega arith))
 own_statuses (Faulted fault line counts) own = own_status 4 (inl (omega arith))
 own_statuses (StepsOut counts) own = own_status 5 (inl (omega arith))
-own_statuses ReadFault own = absurd (own.not_read refl)
-own_statuses WriteFault own = absurd (own.not_write refl)
-own_statuses Memory own = absurd (own.not_memory refl)
-own_statuses (BadObject fault) own = own_status 9 (inr (omega arith))
-own_statuses (BadCode fault) own = own_status 9 (inr (omega arith))
-own_statuses TooLong own = own_status 10 (inr (omega arith))
+own_statuses (BadSource fault place) own = own_status 3 (inl (omega arith))
 own_statuses (TooMuchCode size) own = own_status 11 (inr (omega arith))
+own_statuses (Refused refusal) own = absurd (own.not_refused refusal refl)
 
 -- the outcome of a run with such an end, in whose place all is that was written
 record Inner (P : Due → Type 0) (printed : List ℕ) (end : End) : Type 0 where

@@ -9,6 +9,7 @@ use crate::input::run_verified;
 use alma_driver_outcome::{End, Showing};
 use alma_io::{Sink, Source};
 use alma_object::ObjectView;
+use alma_plan::Refusal;
 use alma_verify::{open_object, verify};
 use std::alloc::Global;
 
@@ -27,7 +28,7 @@ fn exec_view<I: Source, O: Sink>(
 {
     match verify(view) {
         Ok(code) => run_verified(alloc, code, input, steps, Showing::Prints(stats), out),
-        Err(fault) => End::BadCode(fault),
+        Err(fault) => End::Refused(Refusal::BadCode(fault)),
     }
 }
 
@@ -46,6 +47,6 @@ pub fn exec_object<I: Source, O: Sink>(
 {
     match open_object(bytes) {
         Ok(view) => exec_view(alloc, view, input, steps, stats, out),
-        Err(fault) => End::BadObject(fault),
+        Err(fault) => End::Refused(Refusal::BadObject(fault)),
     }
 }

@@ -14,7 +14,7 @@ use alma_base::{INPUT_LIMIT, NoMemory};
 use alma_driver_outcome::{Counts, End, Showing, end_of};
 use alma_io::{Sink, Source, read_all};
 use alma_machine::Machine;
-use alma_plan::Stop;
+use alma_plan::{Refusal, Stop};
 use alma_verify::Verified;
 use std::alloc::Global;
 
@@ -54,7 +54,7 @@ fn print_on<O: Sink>(
             let line = machine.view().line_at(machine.at());
             end_of(end, line, counts_of(&machine, stats))
         }
-        Err(NoMemory) => End::Memory,
+        Err(NoMemory) => End::Refused(Refusal::Stopped(Stop::Memory)),
     }
 }
 

@@ -13,6 +13,7 @@ use alma_code_list::list_text;
 use alma_driver_outcome::End;
 use alma_io::{Sink, write_all};
 use alma_object::ObjectView;
+use alma_plan::{Refusal, Stop};
 use alma_verify::open_object;
 use std::alloc::Global;
 
@@ -23,7 +24,7 @@ fn show_text<O: Sink>(text: &[u8], out: &mut O) -> End
 {
     match write_all(out, text) {
         Ok(()) => End::Succeeded(None),
-        Err(_) => End::WriteFault,
+        Err(_) => End::Refused(Refusal::Stopped(Stop::Write)),
     }
 }
 
@@ -34,7 +35,7 @@ fn list_code<O: Sink>(alloc: Global, code: &Code, out: &mut O) -> End
 {
     match list_text(alloc, code) {
         Ok(text) => show_text(&text, out),
-        Err(NoMemory) => End::Memory,
+        Err(NoMemory) => End::Refused(Refusal::Stopped(Stop::Memory)),
     }
 }
 
@@ -45,7 +46,7 @@ fn list_view<O: Sink>(alloc: Global, view: &ObjectView<'_>, out: &mut O) -> End
 {
     match view.to_code(alloc) {
         Ok(code) => list_code(alloc, &code, out),
-        Err(NoMemory) => End::Memory,
+        Err(NoMemory) => End::Refused(Refusal::Stopped(Stop::Memory)),
     }
 }
 
@@ -56,6 +57,6 @@ pub fn list_object<O: Sink>(alloc: Global, bytes: &[u8], out: &mut O) -> End
 {
     match open_object(bytes) {
         Ok(view) => list_view(alloc, &view, out),
-        Err(fault) => End::BadObject(fault),
+        Err(fault) => End::Refused(Refusal::BadObject(fault)),
     }
 }

@@ -10,6 +10,7 @@ ghost use Rattle.alma_source.specs.Refusal.{IsProgramOf};
 
 use alma_driver_outcome::End;
 use alma_ir::Program;
+use alma_plan::{Refusal, Stop};
 use alma_scan::place;
 use alma_source::SourceStop;
 use alma_unit::check_source;
@@ -24,8 +25,11 @@ pub fn load_source(alloc: Global, source: &[u8]) -> Result<Program, End>
 {
     match check_source(alloc, source) {
         Ok(program) => Ok(program),
-        Err(SourceStop::Refused(fault, offset)) => Err(End::Refused(fault, place(source, offset))),
-        Err(SourceStop::Memory) => Err(End::Memory),
+        Err(SourceStop::Refused(fault, offset)) => Err(End::BadSource(
+            fault,
+            place(source, offset),
+        )),
+        Err(SourceStop::Memory) => Err(End::Refused(Refusal::Stopped(Stop::Memory))),
     }
 }
 

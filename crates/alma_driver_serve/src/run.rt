@@ -14,6 +14,7 @@ use alma_code::Code;
 use alma_driver_outcome::{End, Showing};
 use alma_io::{Sink, Source};
 use alma_object::encode;
+use alma_plan::{Refusal, Stop};
 use alma_verify::open_encoded;
 use std::alloc::Global;
 
@@ -40,6 +41,6 @@ pub fn run_code<I: Source, O: Sink>(
             let verified = open_encoded(code, &object);
             run_verified(alloc, verified, input, steps, showing, out)
         }
-        Err(NoMemory) => End::Memory,
+        Err(NoMemory) => End::Refused(Refusal::Stopped(Stop::Memory)),
     }
 }

@@ -14,6 +14,7 @@ use alma_base::NoMemory;
 use alma_driver_outcome::{End, Showing};
 use alma_driver_words::{DEFAULT_STEPS, sample_source};
 use alma_io::{Failed, MemSink, MemSource, Sink, write_parts};
+use alma_plan::{Refusal, Stop};
 use itoa::Buffer;
 use std::alloc::Global;
 
@@ -89,7 +90,7 @@ fn run_aside(alloc: Global, source: &[u8]) -> Result<Summary, NoMemory>
         showing,
         &mut prints,
     ) {
-        End::ReadFault | End::WriteFault | End::Memory => Err(NoMemory),
+        End::Refused(_) => Err(NoMemory),
         end => Ok(Summary {
             printed: prints.bytes().len(),
             status: end.status(),
@@ -105,7 +106,7 @@ fn show_summary<O: Sink>(out: &mut O, lines: u32, bytes: usize, told: Summary) -
 {
     match write_summary(out, lines, bytes, told.printed, told.status) {
         Ok(()) => End::Succeeded(None),
-        Err(_) => End::WriteFault,
+        Err(_) => End::Refused(Refusal::Stopped(Stop::Write)),
     }
 }
 
@@ -118,7 +119,7 @@ fn sum_up<O: Sink>(alloc: Global, lines: u32, source: &[u8], out: &mut O) -> End
 {
     match run_aside(alloc, source) {
         Ok(told) => show_summary(out, lines, source.len(), told),
-        Err(NoMemory) => End::Memory,
+        Err(NoMemory) => End::Refused(Refusal::Stopped(Stop::Memory)),
     }
 }
 
@@ -131,6 +132,6 @@ pub fn sample<O: Sink>(alloc: Global, lines: u32, out: &mut O) -> End
 {
     match sample_source(alloc, lines) {
         Ok(source) => sum_up(alloc, lines, &source, out),
-        Err(NoMemory) => End::Memory,
+        Err(NoMemory) => End::Refused(Refusal::Stopped(Stop::Memory)),
     }
 }

@@ -12,6 +12,7 @@ use alma_base::NoMemory;
 use alma_driver_outcome::{End, end_of};
 use alma_io::Sink;
 use alma_machine::Machine;
+use alma_plan::{Refusal, Stop};
 use alma_trace::{Watch, trace, watches};
 use alma_verify::Verified;
 use std::alloc::Global;
@@ -52,7 +53,7 @@ fn trace_watched<O: Sink>(
             let line = machine.view().line_at(machine.at());
             end_of(end, line, None)
         }
-        Err(NoMemory) => End::Memory,
+        Err(NoMemory) => End::Refused(Refusal::Stopped(Stop::Memory)),
     }
 }
 
@@ -73,7 +74,7 @@ fn trace_named<O: Sink>(
 {
     match watches(alloc, code.view(), names) {
         Ok(watched) => trace_watched(alloc, code, input, steps, &watched, out),
-        Err(NoMemory) => End::Memory,
+        Err(NoMemory) => End::Refused(Refusal::Stopped(Stop::Memory)),
     }
 }
 
@@ -95,6 +96,6 @@ pub fn trace_on<O: Sink>(
 {
     match bytes_of(alloc, names) {
         Ok(bytes) => trace_named(alloc, code, input, steps, &bytes, out),
-        Err(NoMemory) => End::Memory,
+        Err(NoMemory) => End::Refused(Refusal::Stopped(Stop::Memory)),
     }
 }
