@@ -8,33 +8,27 @@ use Rattle.alma_verify.specs.Bytes.{object_code}
 use Rattle.alma_plan.proofs.OwnEnds.{HasOwnEnds}
 use Rattle.alma_plan.specs.Course.{Follows, Goes, cut_short, hungry_within, whole}
 use Rattle.alma_plan.specs.Objects.{object_refusal}
-use Rattle.alma_plan.specs.Plan.{Plan, Due, Ending, IsDue, silent, prints, plain}
-use Rattle.alma_plan.specs.Refusals.{refusal_end}
+use Rattle.alma_plan.specs.Plan.{Plan, Due, Ending, Ends, IsDue, silent, prints, plain}
+use Rattle.alma_plan.specs.Refusals.{refusal_end, stop_end}
 use Rattle.alma_driver_words.specs.Words.{is_file_name}
 use Rattle.alma_plan.specs.declared.refusal.Refusal.{Refusal}
-use Rattle.alma_plan.specs.declared.refusal.Refusal.TheVariants.{Stopped, BadWord}
 use Rattle.alma_plan.specs.declared.stop.Stop.{Stop}
 use Rattle.alma_plan.specs.declared.stop.Stop.TheVariants.{Read, Write, Memory, TooLong}
 use Rattle.alma_plan.proofs.Courses.{course_ends, course_starved, gains_none}
 use Rattle.alma_plan.proofs.PlainEnds.{own_status, refusal_status}
-use Rattle.alma_back.specs.declared.end.BackEnd.{BackEnd}
-use Rattle.alma_back.specs.declared.end.BackEnd.TheVariants.{Walked, BadLine, Refused}
+use Rattle.alma_back.specs.declared.stop.BackStop.{BackStop}
+use Rattle.alma_back.specs.declared.stop.BackStop.TheVariants.{BadLine, Refused}
 use Rattle.alma_back.specs.Due.{program, walk_on_plan, walk_plan, unless_bad_line, walk_files_plan, fetch_plan, bad_word_plan, with_script}
 use Rattle.alma_back.specs.Due.{back_plan}
-use Rattle.alma_back.specs.Ends.{back_end}
+use Rattle.alma_back.specs.Ends.{back_end, end_by}
 use Rattle.alma_back.specs.Inner.{IsUnread, Shows}
 use Rattle.alma_back.specs.Script.{Line, lines_in}
 use Rattle.alma_back.specs.Session.{session}
 
 -- ---- how a walk ends
 
--- the end of a walk by what stopped it
-abbrev pub walk_end : Result (Unit {0}) Stop → BackEnd
-walk_end (Ok done) = Walked
-walk_end (Err stop) = Refused (Stopped stop)
-
 pub goes_walk : (bytes : List ℕ) (out out' : SinkSide) (r : Result (Unit {0}) Stop) → Shows out out' bytes r
-    → Goes program (IsDue (prints bytes)) out out' (back_end (walk_end r))
+    → Goes program (IsDue (prints bytes)) out out' (end_by (stop_end program) r)
 goes_walk bytes out out' (Ok done) h = whole (prints bytes) refl refl refl h
 goes_walk bytes out out' (Err Write) h = cut_short (prints bytes) refl refl refl h
 goes_walk bytes out out' (Err Memory) h = hungry_within (prints bytes) refl refl h.0 h.1
@@ -57,9 +51,8 @@ module _ (object : List ℕ) (files : FilesSide) (input : SourceSide) (out : Sin
       (silent_end (refusal_end program refusal) files input out))
 
   -- the script was not read
-  pub walk_files_unread : (script : List ℕ) (end : BackEnd) → IsUnread script end
-      → Follows plain program (walk_files_plan object script) files files input input out out (back_end end)
-  walk_files_unread script Walked h = absurd h
+  pub walk_files_unread : (script : List ℕ) (stop : BackStop) → IsUnread script stop
+      → Follows plain program (walk_files_plan object script) files files input input out out (back_end stop)
   walk_files_unread script (BadLine line) h =
       subst (λ (r : Result (List Line) ℕ). Follows plain program (unless_bad_line r object) files files input input out out
       (back_end (BadLine line))) (sym h)
@@ -89,11 +82,11 @@ module _ (object : List ℕ) (files : FilesSide) (input : SourceSide) (out : Sin
         subst (λ (r : Result (List Line) ℕ). Follows plain program (unless_bad_line r object) files files input input' out out' end)
         (sym is) follows
 
--- a word cannot stand where it is
-pub bad_followed : (word : ℕ) (files : FilesSide) (input : SourceSide) (out : SinkSide)
-    → Follows plain program (bad_word_plan word) files files input input out out (back_end (Refused (BadWord word)))
-bad_followed word files input out =
-    let end = back_end (Refused (BadWord word)) in
+-- the call is refused
+pub refused_followed : (refusal : Refusal) (files : FilesSide) (input : SourceSide) (out : SinkSide)
+    → Follows plain program (Ends (silent (refusal_end program refusal))) files files input input out out (refusal_end program refusal)
+refused_followed refusal files input out =
+    let end = refusal_end program refusal in
     course_ends plain program (silent end) files input out out end (silent_end end files input out)
 
 -- ---- its ends

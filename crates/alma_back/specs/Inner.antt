@@ -7,10 +7,10 @@ use Rattle.alma_io.specs.Sides.{SinkSide}
 use Rattle.alma_plan.specs.declared.refusal.Refusal.TheVariants.{Stopped}
 use Rattle.alma_plan.specs.declared.stop.Stop.{Stop}
 use Rattle.alma_plan.specs.declared.stop.Stop.TheVariants.{Read, Write, Memory, TooLong}
-use Rattle.alma_back.specs.declared.end.BackEnd.{BackEnd}
-use Rattle.alma_back.specs.declared.end.BackEnd.TheVariants.{Walked, BadLine, Refused}
 use Rattle.alma_back.specs.declared.script.Line as read
 use Rattle.alma_back.specs.declared.script.Line.TheVariants as of_script
+use Rattle.alma_back.specs.declared.stop.BackStop.{BackStop}
+use Rattle.alma_back.specs.declared.stop.BackStop.TheVariants.{BadLine, Refused}
 use Rattle.alma_back.specs.Standing.{step_limit}
 use Rattle.alma_back.specs.Script.{Line, Forward, Backward, Value, Output, Texts, lines_in, greatest_count}
 
@@ -47,9 +47,8 @@ none_ended text = record { ended = []; left = text }
 abbrev pub one_ended : List ℕ → Texts → Texts
 one_ended text texts = record { ended = text ∷ texts.ended; left = texts.left }
 
--- the end of a call whose script was not read: a line is bad, or memory ran out
-abbrev pub IsUnread : (script : List ℕ) → BackEnd → Type 0
-IsUnread script Walked = ⊥
+-- why a script was not read: a line is bad, or memory ran out
+abbrev pub IsUnread : (script : List ℕ) → BackStop → Type 0
 IsUnread script (BadLine line) = lines_in script ≡ Err line
 IsUnread script (Refused refusal) = refusal ≡ Stopped Memory
 

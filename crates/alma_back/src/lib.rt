@@ -2,12 +2,12 @@
 #![tactic(auto)]
 
 mod back;
-mod end;
 pub mod laws;
 mod main_call;
 mod script;
 mod serve;
 mod show;
+mod stop;
 mod walk;
 
 pub use back::Back;

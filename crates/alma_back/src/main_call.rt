@@ -5,10 +5,10 @@ ghost use Rattle.alma_io.specs.Outside.{outside_of};
 ghost use Rattle.alma_plan.specs.Plan.{plain};
 ghost use Rattle.alma_driver_words.specs.Words.{texts};
 ghost use Rattle.alma_back.specs.Due.{program, back_plan};
-ghost use Rattle.alma_back.specs.Ends.{back_end};
+ghost use Rattle.alma_back.specs.Ends.{back_end, end_by};
 
-use crate::end::BackEnd;
 use crate::serve::perform;
+use crate::stop::BackStop;
 use alma_base::Status;
 use alma_driver_words::exit;
 use alma_io::{Files, Sink, Source};
@@ -19,15 +19,15 @@ use std::alloc::Global;
 const PROGRAM: &[u8] = b"alma_back";
 
 // Says on err how the call ends: the status of that, or that of a write fault where err fails.
-fn tell<E: Sink>(err: &mut E, end: BackEnd) -> Status
-    ensures { Reports (back_end end) (E.side err.old) (E.side err.new) result.0 }
+fn tell<E: Sink>(err: &mut E, outcome: Result<(), BackStop>) -> Status
+    ensures { Reports (end_by back_end outcome) (E.side err.old) (E.side err.new) result.0 }
 {
-    match end {
-        BackEnd::Walked => Status(exit::SUCCEEDED),
-        BackEnd::BadLine(line) => {
+    match outcome {
+        Ok(()) => Status(exit::SUCCEEDED),
+        Err(BackStop::BadLine(line)) => {
             tell_number(err, PROGRAM, exit::OWN_REFUSAL, b"bad line ", line as u64)
         }
-        BackEnd::Refused(refusal) => refuse(err, PROGRAM, refusal),
+        Err(BackStop::Refused(refusal)) => refuse(err, PROGRAM, refusal),
     }
 }
 
@@ -57,6 +57,6 @@ pub fn back_main<F: Files, I: Source, O: Sink, E: Sink>(
         (outside_of (F.side files.new) (I.side input.new) (O.side out.new) (E.side err.new))
         result.0 }
 {
-    let end = perform(alloc, words, files, input, out);
-    tell(err, end)
+    let outcome = perform(alloc, words, files, input, out);
+    tell(err, outcome)
 }

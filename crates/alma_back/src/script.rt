@@ -3,9 +3,8 @@ ghost use Rattle.std.specs.Prelude.{◌≡◌, ◌≤◌, ◌*◌, ◌+◌, Ok, 
 ghost use Rattle.alma_back.specs.Script.{texts_in, count_in, name_in, line_with as line_with_of, line_in, lines_in};
 ghost use Rattle.alma_back.specs.Inner.{line_of, lines_of, none_ended, one_ended, IsShort, IsUnread};
 
-use crate::end::BackEnd;
+use crate::stop::BackStop;
 use alma_driver_words::{is_name, numeral};
-use alma_plan::{Refusal, Stop};
 use std::alloc::Global;
 
 /// The greatest number of digits of a number of steps.
@@ -85,25 +84,23 @@ fn split_line(text: &[u8]) -> Option<(&[u8], &[u8])>
     None
 }
 
-/// The lines of a script, or how a call ends whose script has a bad line.
-pub fn read_lines(alloc: Global, script: &[u8]) -> Result<Vec<Line<'_>>, BackEnd>
+/// The lines of a script, unless one of them is none.
+pub fn read_lines(alloc: Global, script: &[u8]) -> Result<Vec<Line<'_>>, BackStop>
     ensures lines { IfOk result (λ lines. lines_in script.now ≡ Ok (lines_of lines.items)) }
     ensures few { IfOk result (λ lines. 2 * length lines.items ≤ length script.now) }
     ensures short { IfOk result (λ lines. All IsShort lines.items) }
-    ensures refused { IfErr result (λ end. IsUnread script.now end) }
+    ensures refused { IfErr result (λ stop. IsUnread script.now stop) }
 {
     let mut lines = Vec::new(alloc);
     let mut rest = script;
     while !rest.is_empty() {
         let Some((text, behind)) = split_line(rest) else {
-            return Err(BackEnd::BadLine(lines.len() + 1));
+            return Err(BackStop::BadLine(lines.len() + 1));
         };
         let Some(line) = read_line(text) else {
-            return Err(BackEnd::BadLine(lines.len() + 1));
+            return Err(BackStop::BadLine(lines.len() + 1));
         };
-        if lines.push(line).is_err() {
-            return Err(BackEnd::Refused(Refusal::Stopped(Stop::Memory)));
-        }
+        lines.push(line)?;
         rest = behind;
     }
     Ok(lines)

@@ -15,8 +15,8 @@ returns-then-has_read g c = λ files.
     ap (λ v. code_reads (code_of_view v)) (sym c.view.ensures.view) ∙ sym c.has_read.ensures ∙ c.if-has_read.true in
     rw reads (c.walk_reading.ensures files)
 
-pub returns : goal.returns
-returns g c = λ files.
+pub returns-else-has_read : goal.returns-else-has_read
+returns-else-has_read g c = λ files.
     let reads : code_reads (code_of_verified c.args.code) ≡ false =
     ap (λ v. code_reads (code_of_view v)) (sym c.view.ensures.view) ∙ sym c.has_read.ensures ∙ c.if-has_read.false in
     rw reads (course_ends plain program
