@@ -9,7 +9,7 @@ use Rattle.alma_plan.proofs.OwnEnds.{HasOwnEnds}
 use Rattle.alma_plan.specs.Course.{Follows, Goes, cut_short, hungry_within, whole}
 use Rattle.alma_plan.specs.Objects.{object_refusal}
 use Rattle.alma_plan.specs.Plan.{Plan, Due, Ending, Ends, IsDue, silent, prints, plain}
-use Rattle.alma_plan.specs.Refusals.{refusal_end, stop_end}
+use Rattle.alma_plan.specs.Refusals.{end_by, refusal_end, stop_end}
 use Rattle.alma_driver_words.specs.Words.{is_file_name}
 use Rattle.alma_plan.specs.declared.refusal.Refusal.{Refusal}
 use Rattle.alma_plan.specs.declared.stop.Stop.{Stop}
@@ -20,7 +20,7 @@ use Rattle.alma_back.specs.declared.stop.BackStop.{BackStop}
 use Rattle.alma_back.specs.declared.stop.BackStop.TheVariants.{BadLine, Refused}
 use Rattle.alma_back.specs.Due.{program, walk_on_plan, walk_plan, unless_bad_line, walk_files_plan, fetch_plan, bad_word_plan, with_script}
 use Rattle.alma_back.specs.Due.{back_plan}
-use Rattle.alma_back.specs.Ends.{back_end, end_by}
+use Rattle.alma_back.specs.Ends.{back_end}
 use Rattle.alma_back.specs.Inner.{IsUnread, Shows}
 use Rattle.alma_back.specs.Script.{Line, lines_in}
 use Rattle.alma_back.specs.Session.{session}

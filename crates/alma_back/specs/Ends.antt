@@ -1,6 +1,5 @@
 -- The ends of a call, as they are due.
-use Rattle.std.specs.Prelude.{Result, Ok, Err}
-use Rattle.alma_plan.specs.Plan.{Ending, success}
+use Rattle.alma_plan.specs.Plan.{Ending}
 use Rattle.alma_plan.specs.Refusals.{refusal_end}
 use Rattle.alma_back.specs.declared.stop.BackStop.{BackStop}
 use Rattle.alma_back.specs.declared.stop.BackStop.TheVariants.{BadLine, Refused}
@@ -10,8 +9,3 @@ use Rattle.alma_back.specs.Due.{program, bad_line}
 abbrev pub back_end : BackStop → Ending
 back_end (BadLine line) = bad_line line
 back_end (Refused refusal) = refusal_end program refusal
-
--- how a call ends: with success, or as it is said of what stopped it
-abbrev pub end_by : {E : Type 0} → (stopped : E → Ending) → Result (Unit {0}) E → Ending
-end_by stopped (Ok _) = success
-end_by stopped (Err stop) = stopped stop

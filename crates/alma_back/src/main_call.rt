@@ -5,7 +5,8 @@ ghost use Rattle.alma_io.specs.Outside.{outside_of};
 ghost use Rattle.alma_plan.specs.Plan.{plain};
 ghost use Rattle.alma_driver_words.specs.Words.{texts};
 ghost use Rattle.alma_back.specs.Due.{program, back_plan};
-ghost use Rattle.alma_back.specs.Ends.{back_end, end_by};
+ghost use Rattle.alma_plan.specs.Refusals.{end_by};
+ghost use Rattle.alma_back.specs.Ends.{back_end};
 
 use crate::serve::perform;
 use crate::stop::BackStop;

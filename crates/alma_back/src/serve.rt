@@ -2,10 +2,10 @@
 ghost use Rattle.std.specs.Prelude.{◌≡◌, IfOk, IfErr};
 ghost use Rattle.alma_plan.specs.Course.{Follows};
 ghost use Rattle.alma_plan.specs.Plan.{Ends, Fetches, plain, silent};
-ghost use Rattle.alma_plan.specs.Refusals.{refusal_end};
+ghost use Rattle.alma_plan.specs.Refusals.{end_by, refusal_end};
 ghost use Rattle.alma_driver_words.specs.Words.{texts};
 ghost use Rattle.alma_back.specs.Due.{program, script_limit, walk_files_plan, fetch_plan, back_plan};
-ghost use Rattle.alma_back.specs.Ends.{back_end, end_by};
+ghost use Rattle.alma_back.specs.Ends.{back_end};
 
 use crate::stop::BackStop;
 use crate::walk::walk_files;

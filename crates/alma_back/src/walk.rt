@@ -8,9 +8,9 @@ ghost use Rattle.alma_verify.specs.Verified.{code_of_verified};
 ghost use Rattle.alma_plan.specs.Course.{Follows, Goes};
 ghost use Rattle.alma_plan.specs.Objects.{object_refusal};
 ghost use Rattle.alma_plan.specs.Plan.{Reads, prints, IsDue, plain};
-ghost use Rattle.alma_plan.specs.Refusals.{refusal_end, stop_end};
+ghost use Rattle.alma_plan.specs.Refusals.{end_by, refusal_end, stop_end};
 ghost use Rattle.alma_back.specs.Due.{program, walk_files_plan, walk_plan, walk_on_plan, script_limit};
-ghost use Rattle.alma_back.specs.Ends.{back_end, end_by};
+ghost use Rattle.alma_back.specs.Ends.{back_end};
 ghost use Rattle.alma_back.specs.Inner.{AreWalkable, lines_of};
 ghost use Rattle.alma_back.specs.Session.{session};
 

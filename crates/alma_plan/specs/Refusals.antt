@@ -1,5 +1,5 @@
 -- What stops a call, and why one is refused: statuses and texts.
-use Rattle.std.specs.Prelude.{List, ℕ, ◌++◌, codes, decimal, Option, None, Some}
+use Rattle.std.specs.Prelude.{List, ℕ, ◌++◌, codes, decimal, Option, None, Some, Result, Ok, Err}
 use Rattle.alma_code.specs.declared.step.VerifyFault.{VerifyFault}
 use Rattle.alma_driver_words.specs.Exit as exit
 use Rattle.alma_io.specs.declared.files.Fetch.{Fetch}
@@ -8,7 +8,7 @@ use Rattle.alma_io.specs.declared.whole.ReadAll.{ReadAll}
 use Rattle.alma_io.specs.declared.whole.ReadAll.TheVariants as whole
 use Rattle.alma_object_format.specs.declared.fault.ObjectFault.{ObjectFault}
 use Rattle.alma_object_format.specs.Fault.{object_fault_name, object_fault_number}
-use Rattle.alma_plan.specs.Plan.{Ending, tells}
+use Rattle.alma_plan.specs.Plan.{Ending, success, tells}
 use Rattle.alma_plan.specs.declared.refusal.Refusal.{Refusal}
 use Rattle.alma_plan.specs.declared.refusal.Refusal.TheVariants.{BadWord, BadObject, BadCode, Stopped}
 use Rattle.alma_plan.specs.declared.stop.Stop.{Stop}
@@ -81,3 +81,8 @@ refusal_text (Stopped stop) = stop_text stop
 -- the end of a program that refuses
 abbrev pub refusal_end : (program : List ℕ) → Refusal → Ending
 refusal_end program refusal = tells program (refusal_status refusal) (refusal_text refusal)
+
+-- how a call ends by what it answers: in success, or as it is said of what stopped it
+abbrev pub end_by : {E : Type 0} → (stopped : E → Ending) → Result (Unit {0}) E → Ending
+end_by stopped (Ok _) = success
+end_by stopped (Err stop) = stopped stop

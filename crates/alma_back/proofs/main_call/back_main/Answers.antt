@@ -2,7 +2,8 @@ use Rattle.alma_driver_words.specs.Words.{texts}
 use Rattle.alma_plan.proofs.CauseLemmas.{causes_of, plain_has_one}
 use Rattle.alma_plan.specs.Plan.{plain}
 use Rattle.alma_back.specs.Due.{program, back_plan}
-use Rattle.alma_back.specs.Ends.{back_end, end_by}
+use Rattle.alma_plan.specs.Refusals.{end_by}
+use Rattle.alma_back.specs.Ends.{back_end}
 use Rattle.alma_back.proofs.Plans.{own_plan}
 use Rattle.alma_back.proofs.main_call.back_main.Goals as goal
 

@@ -1,9 +1,8 @@
 use Rattle.std.proofs.Common.{subst}
 use Rattle.alma_plan.specs.Course.{Goes}
 use Rattle.alma_plan.specs.Plan.{prints, IsDue}
-use Rattle.alma_plan.specs.Refusals.{stop_end}
+use Rattle.alma_plan.specs.Refusals.{end_by, stop_end}
 use Rattle.alma_back.specs.Due.{program}
-use Rattle.alma_back.specs.Ends.{end_by}
 use Rattle.alma_back.specs.Inner.{lines_of}
 use Rattle.alma_back.specs.Session.{lines_text}
 use Rattle.alma_back.specs.Standing.{Standing}
