@@ -1,6 +1,6 @@
--- Calls that check, compile or trace a source, or run an object, show what its program means.
+-- Calls that check, compile or trace a source, or list or run an object, show what is due from it.
 use Rattle.std.proofs.Common.{◌≡◌, ◌≤◌, ◌∙◌, ℕ, List, [], length, ap, sym, subst, arith}
-use Rattle.std.specs.Prelude.{Bool, Option, None, Some}
+use Rattle.std.specs.Prelude.{Bool, true, Option, None, Some}
 use Rattle.alma_base.specs.Limits.{input_limit}
 use Rattle.alma_io.specs.Outside.{Outside, IsUndisturbed, MayBeLeft, StoredFile}
 use Rattle.alma_io.specs.Whole.{MayHaveMore}
@@ -15,20 +15,21 @@ use Rattle.alma_run_laws.specs.Shown.{shown_end}
 use Rattle.alma_run_laws.specs.Stored.{SpellsCodeOf}
 use Rattle.alma_run_laws.proofs.Meant.{code_shows}
 use Rattle.alma_run_laws.proofs.Spelled.{spelled_sound}
-use Rattle.alma_driver_words.specs.Words.{Check, Compile, Exec, Trace, file_of}
+use Rattle.alma_driver_words.specs.Words.{Check, Compile, Exec, Listing, Trace, file_of}
 use Rattle.alma_plan.specs.Undisturbed.{ShowsDue}
 use Rattle.alma_source.specs.Refusal.{IsProgramOf}
 use Rattle.alma_source.proofs.RefusalLemmas.{only_fault}
 use Rattle.alma_driver_outcome.specs.Commands.{AsksOf, GivesInput, ShowsRefusal, ShowsSize, CheckEnds, CompileEnds, TraceEnds, ProgramEnds}
-use Rattle.alma_driver_outcome.specs.Commands.{ShowsTrace, input_by, accepts, stores, traces}
+use Rattle.alma_driver_outcome.specs.Commands.{ListEnds, ObjectEnds, ShowsRun, ShowsTrace, input_by, accepts, lists, runs, stores, traces}
 use Rattle.alma_driver_outcome.specs.Commands as shown
 use Rattle.alma_driver_outcome.specs.Headline.{ShowsEnd}
 use Rattle.alma_driver_outcome.specs.Outcome.{Due, silent, code_due, InputOutcome, unread, taken, past_input, ProgramOutcome, ran}
 use Rattle.alma_driver_outcome.specs.Outcome.{too_much_code, IsSourceEnd, refused, SourceOutcome, stopped, compiled, CheckOutcome}
+use Rattle.alma_driver_outcome.specs.Outcome.{ListOutcome, listed, no_object}
 use Rattle.alma_driver_outcome.specs.Outcome.{CompileOutcome, made, past_size, ExecOutcome, opened, unopened, executed, unsound}
 use Rattle.alma_driver_outcome.specs.Parts.{shown_in}
 use Rattle.alma_driver_outcome.specs.Scope.{Causes}
-use Rattle.alma_driver_outcome.specs.Showing.{Traces}
+use Rattle.alma_driver_outcome.specs.Showing.{Prints, Traces}
 use Rattle.alma_driver_outcome.specs.declared.end.End.{End}
 use Rattle.alma_driver_outcome.proofs.HeadlineLemmas.{program_ends}
 use Rattle.alma_driver_outcome.proofs.RunLemmas.{told_is}
@@ -121,6 +122,33 @@ module _ (words : List (List ℕ)) (before after : Outside) (status : ℕ) where
   exec_of p bytes input steps stats due is given h (opened clean (unsound fault c e)) = cc (spelled_sound p bytes is, c)
   exec_of p bytes input steps stats due is given h (unopened fault c e) = cc (is.clean, c)
 
+  -- bytes that are listed
+  list_of : (bytes : List ℕ) (due : Due) → Came due → ListOutcome bytes due → ListEnds words before after status bytes
+  list_of bytes due h (listed clean is e) = lists clean is (subst Came e h)
+  list_of bytes due h (no_object fault is e) = shown.ListEnds.no_object fault is (subst Came e h)
+
+  -- bytes that are run
+  module _ (bytes input : List ℕ) (steps : ℕ) (stats : Bool) (due : Due) (h : Came due) where
+    abbrev ran_on : List ℕ → Type 0
+    ran_on i = ShowsRun words before after status (object_code bytes) i steps stats
+
+    run_by : (code_reads (object_code bytes) ≡ true → before.input.left ≡ Some input) → length input ≤ input_limit
+        → InputOutcome before.input.left (object_code bytes) steps (Prints stats) due
+        → ran_on (input_by (code_reads (object_code bytes)) input)
+    run_by told short (unread quiet e) = subst (λ (r : Bool). ran_on (input_by r input)) (sym quiet) (subst Came e h)
+    run_by told short (taken other reads l few e) =
+        let same : input ≡ other = subst (λ (o : Option (List ℕ)). MayBeLeft o other) (told reads) l in
+        subst (λ (r : Bool). ran_on (input_by r input)) (sym reads) (subst ran_on (sym same) (subst Came e h))
+    run_by told short (past_input reads more e) =
+        let past : MayHaveMore (Some input) input_limit = subst (λ (o : Option (List ℕ)). MayHaveMore o input_limit) (told reads) more in
+        absurd (omega (arith, short, past))
+
+    object_of : (code_reads (object_code bytes) ≡ true → before.input.left ≡ Some input) → length input ≤ input_limit
+        → ExecOutcome before.input.left bytes steps stats due → ObjectEnds words before after status bytes input steps stats
+    object_of told short (unopened fault is e) = shown.ObjectEnds.no_object fault is (subst Came e h)
+    object_of told short (opened clean (unsound fault is e)) = shown.ObjectEnds.unsound fault clean is (subst Came e h)
+    object_of told short (opened clean (executed sound o)) = runs clean sound (run_by told short o)
+
   -- ---- where nothing failed
 
   pub check_ends : (name source : List ℕ) → AsksOf words (Check name) before source → Causes words before after status
@@ -146,3 +174,16 @@ module _ (words : List (List ℕ)) (before after : Outside) (status : ℕ) where
   exec_ends object bytes input steps stats p a is given c u =
       let w = whole_call words (Exec object steps stats) bytes before after status a c u in
       exec_of p bytes input steps stats w.due is given w.shows w.outcome
+
+  pub list_ends : (object bytes : List ℕ) → AsksOf words (Listing object) before bytes → Causes words before after status
+      → IsUndisturbed before after status → ListEnds words before after status bytes
+  list_ends object bytes a c u =
+      let w = whole_call words (Listing object) bytes before after status a c u in list_of bytes w.due w.shows w.outcome
+
+  pub object_ends : (object bytes input : List ℕ) (steps : ℕ) (stats : Bool) → AsksOf words (Exec object steps stats) before bytes
+      → (code_reads (object_code bytes) ≡ true → before.input.left ≡ Some input) → length input ≤ input_limit
+      → Causes words before after status → IsUndisturbed before after status
+      → ObjectEnds words before after status bytes input steps stats
+  object_ends object bytes input steps stats a told short c u =
+      let w = whole_call words (Exec object steps stats) bytes before after status a c u in
+      object_of bytes input steps stats w.due w.shows told short w.outcome

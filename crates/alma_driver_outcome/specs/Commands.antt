@@ -1,4 +1,4 @@
--- What calls come to that check, compile or trace a source, or run an object, in the words of a reader of the meaning.
+-- What calls come to that check, compile or trace a source, or list or run an object.
 use Rattle.std.specs.Prelude.{◌≡◌, ◌<◌, ◌≤◌, suc, Bool, true, false, List, ℕ, [], length, None, Some}
 use Rattle.alma_base.specs.Limits.{size_limit, input_limit}
 use Rattle.alma_io.specs.Files.{Has}
@@ -6,22 +6,31 @@ use Rattle.alma_io.specs.Outside.{Outside}
 use Rattle.alma_ir.specs.Tree.{Program}
 use Rattle.alma_mean.specs.Events.{End}
 use Rattle.alma_mean.specs.Meaning.{result}
+use Rattle.alma_code.specs.ListText.{list_text}
 use Rattle.alma_code.specs.Plain.{PlainCode}
+use Rattle.alma_code.specs.Reads.{code_reads}
+use Rattle.alma_code.specs.Rules.{code_fault}
 use Rattle.alma_code.specs.TraceText.{trace_text}
+use Rattle.alma_code.specs.declared.step.VerifyFault.{VerifyFault}
 use Rattle.alma_lower.specs.CodeFor.{IsCodeFor}
-use Rattle.alma_lower_implements.specs.Implements.{printed_by}
+use Rattle.alma_lower_implements.specs.Implements.{printed_by, state_after}
 use Rattle.alma_lower_sound.specs.Reads.{program_reads}
 use Rattle.alma_driver_words.specs.Words.{Request, Asks, file_of}
+use Rattle.alma_object.specs.Object.{IsObject}
+use Rattle.alma_object.specs.Walk.{object_fault}
+use Rattle.alma_object_format.specs.declared.fault.ObjectFault.{ObjectFault}
 use Rattle.alma_plan.specs.Undisturbed.{ShowsDue}
+use Rattle.alma_plan.specs.declared.refusal.Refusal.TheVariants as refusal
 use Rattle.alma_run_laws.specs.Shown.{size_of, Shows}
 use Rattle.alma_run_laws.specs.Stored.{SpellsCodeOf}
 use Rattle.alma_source.specs.Refusal.{IsOnlyFault, IsProgramOf, place_of}
 use Rattle.alma_source.specs.declared.fault.SourceFault.{SourceFault}
+use Rattle.alma_verify.specs.Bytes.{object_code}
 use Rattle.alma_driver_outcome.specs.Words.{limit_of, IsReadBy}
-use Rattle.alma_driver_outcome.specs.Outcome.{told_end}
+use Rattle.alma_driver_outcome.specs.Outcome.{code_end, told_end}
 use Rattle.alma_driver_outcome.specs.Ends.{ending_in}
 use Rattle.alma_driver_outcome.specs.Headline.{ShowsEnd, ShowsResult, ShowsFront}
-use Rattle.alma_driver_outcome.specs.declared.end.End.TheVariants.{BadSource, Succeeded, TooMuchCode}
+use Rattle.alma_driver_outcome.specs.declared.end.End.TheVariants.{BadSource, Refused, Succeeded, TooMuchCode}
 
 -- ---- what is asked for
 
@@ -98,3 +107,25 @@ module _ (words : List (List ℕ)) (before after : Outside) (status : ℕ) where
   pub data ProgramEnds (p : Program) (input : List ℕ) (steps : ℕ) (stats : Bool) : Type 0 where
     ended : ShowsResult words stats (result (suc steps) p input) before after status → ProgramEnds p input steps stats
     ran_out : ShowsFront words stats p input steps before after status → ProgramEnds p input steps stats
+
+  -- What a call shows that asks to list bytes: the text of the code whose object they are, or the first fault of the format.
+  pub data ListEnds (bytes : List ℕ) : Type 0 where
+    lists : object_fault bytes ≡ None → IsObject (object_code bytes) bytes
+        → ShowsEnd words before after status (Succeeded None) (list_text (object_code bytes)) → ListEnds bytes
+    no_object : (fault : ObjectFault) → object_fault bytes ≡ Some fault
+        → ShowsEnd words before after status (Refused (refusal.BadObject fault)) [] → ListEnds bytes
+
+  -- code ran on an input for so many steps: out gained its prints, and its end is shown, behind counts where they are asked for
+  abbrev pub ShowsRun : PlainCode → (input : List ℕ) → (steps : ℕ) → (stats : Bool) → Type 0
+  ShowsRun code input steps stats =
+      ShowsEnd words before after status (code_end code stats (state_after code input steps)) (printed_by code input steps)
+
+  -- What a call shows that asks to run bytes, whoever made them: the first fault of the format, or the first rule of sound code that
+  -- is broken; or a run of the code that is read from them.
+  pub data ObjectEnds (bytes input : List ℕ) (steps : ℕ) (stats : Bool) : Type 0 where
+    no_object : (fault : ObjectFault) → object_fault bytes ≡ Some fault
+        → ShowsEnd words before after status (Refused (refusal.BadObject fault)) [] → ObjectEnds bytes input steps stats
+    unsound : (fault : VerifyFault) → object_fault bytes ≡ None → code_fault (object_code bytes) ≡ Some fault
+        → ShowsEnd words before after status (Refused (refusal.BadCode fault)) [] → ObjectEnds bytes input steps stats
+    runs : object_fault bytes ≡ None → code_fault (object_code bytes) ≡ None
+        → ShowsRun (object_code bytes) (input_by (code_reads (object_code bytes)) input) steps stats → ObjectEnds bytes input steps stats

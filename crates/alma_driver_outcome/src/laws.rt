@@ -1,13 +1,15 @@
 //! Laws of the definitions that the contracts cite: functions without work, whose contracts are the
 //! laws.
-ghost use Rattle.std.specs.Prelude.{◌≡◌, ◌≤◌, ◌+◌, ◌*◌, Bool, List, ℕ, Option, Some, map};
-ghost use Rattle.alma_base.specs.Limits.{size_limit};
+ghost use Rattle.std.specs.Prelude.{◌≡◌, ◌≤◌, ◌+◌, ◌*◌, Bool, true, List, ℕ, length, Option, Some, map};
+ghost use Rattle.alma_base.specs.Limits.{input_limit, size_limit};
+ghost use Rattle.alma_code.specs.Reads.{code_reads};
+ghost use Rattle.alma_verify.specs.Bytes.{object_code};
 ghost use Rattle.alma_source.specs.Refusal.{IsProgramOf};
 ghost use Rattle.alma_io.specs.Outside.{StoredFile, IsUndisturbed, Outside};
 ghost use Rattle.alma_driver_outcome.specs.Outcome.{Due, ProgramOutcome, CompileOutcome, SourceOutcome, Meant, TraceMeant, ListOutcome, ExecOutcome};
 ghost use Rattle.alma_driver_outcome.specs.Scope.{Causes};
-ghost use Rattle.alma_driver_outcome.specs.Commands.{AsksOf, CheckEnds, CompileEnds, GivesInput, ProgramEnds, TraceEnds};
-ghost use Rattle.alma_driver_words.specs.Words.{Check, Compile, Exec, Trace};
+ghost use Rattle.alma_driver_outcome.specs.Commands.{AsksOf, CheckEnds, CompileEnds, GivesInput, ListEnds, ObjectEnds, ProgramEnds, TraceEnds};
+ghost use Rattle.alma_driver_words.specs.Words.{Check, Compile, Exec, Listing, Trace};
 ghost use Rattle.alma_driver_outcome.specs.Headline.{AsksToRun, IsInputLeft, RunEnds, ShowsResult};
 ghost use Rattle.alma_lower_implements.specs.Implements.{visit_steps};
 ghost use Rattle.alma_run_laws.specs.Stored.{SpellsCodeOf};
@@ -143,6 +145,28 @@ pub fn an_exec_shows_what_its_program_means()
         → GivesInput before p input
         → Causes words before after status → IsUndisturbed before after status
         → ProgramEnds words before after status p input steps stats }
+{}
+
+/// A run of bytes, whoever made them, where memory is found and nothing fails outside, tells the
+/// first fault of their format, or the first rule of sound code that they break; or makes a run of
+/// the code that is read from them.
+pub fn an_exec_runs_the_code_of_its_object()
+    ensures shown { (words : List (List ℕ)) (object bytes input : List ℕ) (steps : ℕ)
+        (stats : Bool) (before after : Outside) (status : ℕ)
+        → AsksOf words (Exec object steps stats) before bytes
+        → (code_reads (object_code bytes) ≡ true → before.input.left ≡ Some input)
+        → length input ≤ input_limit
+        → Causes words before after status → IsUndisturbed before after status
+        → ObjectEnds words before after status bytes input steps stats }
+{}
+
+/// A listing of bytes, where memory is found and nothing fails outside, shows the text of the code
+/// whose object they are, or tells the first fault of their format.
+pub fn a_list_shows_the_code_of_its_object()
+    ensures shown { (words : List (List ℕ)) (object bytes : List ℕ) (before after : Outside)
+        (status : ℕ) → AsksOf words (Listing object) before bytes
+        → Causes words before after status → IsUndisturbed before after status
+        → ListEnds words before after status bytes }
 {}
 
 /// A run of a source, where memory is found and nothing fails outside, reads the input whole where
