@@ -6,8 +6,8 @@ ghost use Rattle.alma_code.specs.Reads.{code_reads};
 ghost use Rattle.alma_io.specs.Sides.{FilesSide};
 ghost use Rattle.alma_plan.specs.Course.{Follows, Goes};
 ghost use Rattle.alma_plan.specs.Plan.{Reads, prints, IsDue, plain};
-ghost use Rattle.alma_pool.specs.Due.{program, bad_turn_behind, play_files_plan, open_objects, play_plan, play_on_plan, pool_text, turns_in, turns_limit};
 ghost use Rattle.alma_plan.specs.Refusals.{stop_end};
+ghost use Rattle.alma_pool.specs.Due.{program, bad_turn_behind, play_files_plan, open_objects, play_plan, play_on_plan, pool_text, turns_in, turns_limit};
 ghost use Rattle.alma_pool.specs.Ends.{end_by, stopped_end};
 ghost use Rattle.alma_pool.specs.Inner.{players_at_start, all_bytes, codes_of, shown_text};
 ghost use Rattle.alma_pool.specs.Pool.{after_turns};
@@ -68,7 +68,8 @@ fn play_on<O: Sink>(
     requires short { length turns.now ≤ turns_limit }
     requires lawful { length input.now ≤ input_limit }
     ensures { Goes program (IsDue (prints (pool_text 0 (codes_of verified.now) input.now
-        (turns_in turns.now)))) (O.side out.old) (O.side out.new) (end_by (stop_end program) result) }
+        (turns_in turns.now)))) (O.side out.old) (O.side out.new)
+        (end_by (stop_end program) result) }
 {
     let mut pool = gather(alloc, verified, input)?;
     play_in(&mut pool, turns, out)

@@ -60,8 +60,7 @@ fn serve<F: Files, I: Source, O: Sink>(
     serve_objects(alloc, &bytes, &mut got, objects, files, input, out)
 }
 
-/// Does what the words ask, or says what it stops at. All bytes of that are on `out` where none
-/// failed.
+/// Does what the words ask, with all its bytes on `out`, or answers what it stopped at.
 pub fn perform<F: Files, I: Source, O: Sink>(
     alloc: Global,
     words: &[String],
