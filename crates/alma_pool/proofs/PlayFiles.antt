@@ -12,7 +12,7 @@ use Rattle.alma_plan.specs.Plan.{Ending, silent, tells, plain}
 use Rattle.alma_plan.proofs.Courses.{course_ends, course_starved, gains_none}
 use Rattle.alma_plan.specs.Objects.{object_refusal}
 use Rattle.alma_pool.specs.Due.{program, or_refused, open_objects, play_plan, unless_bad_turn, play_files_plan, bad_turn_behind, turns_in}
-use Rattle.alma_pool.specs.Ends.{stopped_end}
+use Rattle.alma_pool.specs.Ends.{pool_end}
 use Rattle.alma_pool.specs.Inner.{codes_of, IsRefused}
 use Rattle.alma_pool.specs.declared.stop.PoolStop.{PoolStop}
 
@@ -43,15 +43,15 @@ silent_end end files input out = course_ends plain program (silent end) files in
 -- an object is refused, or memory ran out before it was known
 pub played_refused : (objects : List (List ℕ)) (turns : List ℕ) (stop : PoolStop) (files : FilesSide) (input : SourceSide)
     (out : SinkSide) → IsRefused objects stop
-    → Follows plain program (play_plan (open_objects [] objects) turns) files files input input out out (stopped_end stop)
+    → Follows plain program (play_plan (open_objects [] objects) turns) files files input input out out (pool_end stop)
 played_refused objects turns stop files input out (inl e) =
     subst (λ (end : Ending). Follows plain program (play_plan (open_objects [] objects) turns) files files input input out out end)
-    (sym (ap stopped_end e))
+    (sym (ap pool_end e))
     (course_starved program _ _ files input out)
 played_refused objects turns stop files input out (inr e) =
     subst (λ (r : Result (List PlainCode) Ending). Follows plain program (play_plan r turns) files files input input out out
-    (stopped_end stop)) (sym e)
-    (silent_end (stopped_end stop) files input out)
+    (pool_end stop)) (sym e)
+    (silent_end (pool_end stop) files input out)
 
 module _ (turns : List ℕ) (objects : List (List ℕ)) (files : FilesSide) (input input' : SourceSide) (out out' : SinkSide) where
   -- a byte may not stand in the file of turns

@@ -10,11 +10,10 @@ use Rattle.alma_io.specs.Outside.{Writes}
 use Rattle.alma_io.specs.Sides.{SinkSide}
 use Rattle.alma_plan.specs.Course.{Goes, cut_short, whole}
 use Rattle.alma_plan.specs.Plan.{IsDue, prints}
-use Rattle.alma_plan.specs.Refusals.{stop_end}
+use Rattle.alma_plan.specs.Refusals.{end_by, stop_end}
 use Rattle.alma_plan.specs.declared.stop.Stop.{Stop}
 use Rattle.alma_plan.specs.declared.stop.Stop.TheVariants.{Write}
 use Rattle.alma_pool.specs.Due.{program, program_lines, program_text, end_text, pool_text}
-use Rattle.alma_pool.specs.Ends.{end_by}
 use Rattle.alma_pool.specs.Inner.{end_word, fault_word, shown_text, players_at_start}
 use Rattle.alma_pool.specs.Pool.{PlayerState, PoolView, LoneRun, lone_run, seen_of, player_at_start, ended_in, no_code, no_program}
 use Rattle.alma_pool.specs.Pool.{program_at}

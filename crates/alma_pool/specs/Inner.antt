@@ -10,7 +10,7 @@ use Rattle.alma_verify.specs.declared.verified.Verified.{Verified}
 use Rattle.alma_plan.specs.declared.refusal.Refusal.TheVariants.{Stopped}
 use Rattle.alma_plan.specs.declared.stop.Stop.TheVariants.{Memory}
 use Rattle.alma_pool.specs.Due.{open_objects, program_text}
-use Rattle.alma_pool.specs.Ends.{stopped_end}
+use Rattle.alma_pool.specs.Ends.{pool_end}
 use Rattle.alma_pool.specs.declared.stop.PoolStop.{PoolStop}
 use Rattle.alma_pool.specs.declared.stop.PoolStop.TheVariants.{Refused}
 use Rattle.alma_pool.specs.Pool.{PlayerState, player_at_start, seen_of}
@@ -25,7 +25,7 @@ codes_of verified = map code_of_verified verified
 
 -- memory ran out, or it is the end that these objects bring about
 abbrev pub IsRefused : (objects : List (List ℕ)) → PoolStop → Type 0
-IsRefused objects stop = (stop ≡ Refused (Stopped Memory)) ⊎ (open_objects [] objects ≡ Err (stopped_end stop))
+IsRefused objects stop = (stop ≡ Refused (Stopped Memory)) ⊎ (open_objects [] objects ≡ Err (pool_end stop))
 
 -- codes before their first turn, on one input
 abbrev pub players_at_start : List PlainCode → (input : List ℕ) → List PlayerState

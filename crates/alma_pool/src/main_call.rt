@@ -3,9 +3,10 @@ ghost use Rattle.alma_plan.specs.Causes.{Causes};
 ghost use Rattle.alma_plan.specs.Course.{Answers, Reports};
 ghost use Rattle.alma_io.specs.Outside.{outside_of};
 ghost use Rattle.alma_plan.specs.Plan.{plain};
+ghost use Rattle.alma_plan.specs.Refusals.{end_by};
 ghost use Rattle.alma_driver_words.specs.Words.{texts};
 ghost use Rattle.alma_pool.specs.Due.{program, pool_plan};
-ghost use Rattle.alma_pool.specs.Ends.{end_by, stopped_end};
+ghost use Rattle.alma_pool.specs.Ends.{pool_end};
 
 use crate::serve::perform;
 use crate::stop::PoolStop;
@@ -20,7 +21,7 @@ const PROGRAM: &[u8] = b"alma_pool";
 
 // Says on err how the call ends: the status of that, or that of a write fault where err fails.
 fn tell<E: Sink>(err: &mut E, ended: Result<(), PoolStop>) -> Status
-    ensures { Reports (end_by stopped_end ended) (E.side err.old) (E.side err.new) result.0 }
+    ensures { Reports (end_by pool_end ended) (E.side err.old) (E.side err.new) result.0 }
 {
     match ended {
         Ok(()) => Status(exit::SUCCEEDED),

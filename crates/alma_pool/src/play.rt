@@ -6,9 +6,9 @@ ghost use Rattle.alma_code.specs.Reads.{code_reads};
 ghost use Rattle.alma_io.specs.Sides.{FilesSide};
 ghost use Rattle.alma_plan.specs.Course.{Follows, Goes};
 ghost use Rattle.alma_plan.specs.Plan.{Reads, prints, IsDue, plain};
-ghost use Rattle.alma_plan.specs.Refusals.{stop_end};
+ghost use Rattle.alma_plan.specs.Refusals.{end_by, stop_end};
 ghost use Rattle.alma_pool.specs.Due.{program, bad_turn_behind, play_files_plan, open_objects, play_plan, play_on_plan, pool_text, turns_in, turns_limit};
-ghost use Rattle.alma_pool.specs.Ends.{end_by, stopped_end};
+ghost use Rattle.alma_pool.specs.Ends.{pool_end};
 ghost use Rattle.alma_pool.specs.Inner.{players_at_start, all_bytes, codes_of, shown_text};
 ghost use Rattle.alma_pool.specs.Pool.{after_turns};
 
@@ -129,7 +129,7 @@ fn play_objects<I: Source, O: Sink>(
     ensures { (files : FilesSide) → Follows plain program
         (play_plan (open_objects [] (all_bytes objects.now)) (turns_in turns.now)) files files
         (I.side input.old) (I.side input.new) (O.side out.old) (O.side out.new)
-        (end_by stopped_end result) }
+        (end_by pool_end result) }
 {
     let verified = open_all(alloc, objects)?;
     play(alloc, &verified, turns, input, out)?;
@@ -149,7 +149,7 @@ pub fn play_files<I: Source, O: Sink>(
     ensures { (files : FilesSide) → Follows plain program
         (play_files_plan turns.now (all_bytes objects.now)) files files
         (I.side input.old) (I.side input.new) (O.side out.old) (O.side out.new)
-        (end_by stopped_end result) }
+        (end_by pool_end result) }
 {
     match bad_turn(objects.len(), turns) {
         Some(turn) => Err(PoolStop::BadTurn(turn)),

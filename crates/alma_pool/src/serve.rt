@@ -3,8 +3,9 @@ ghost use Rattle.std.specs.Prelude.{◌≤◌, length};
 ghost use Rattle.alma_plan.specs.Course.{Follows};
 ghost use Rattle.alma_driver_words.specs.Words.{texts};
 ghost use Rattle.alma_plan.specs.Plan.{plain};
+ghost use Rattle.alma_plan.specs.Refusals.{end_by};
 ghost use Rattle.alma_pool.specs.Due.{program, objects_plan, fetch_plan, pool_plan, turns_limit};
-ghost use Rattle.alma_pool.specs.Ends.{end_by, stopped_end};
+ghost use Rattle.alma_pool.specs.Ends.{pool_end};
 ghost use Rattle.alma_pool.specs.Inner.{all_bytes};
 
 use crate::play::play_files;
@@ -30,7 +31,7 @@ fn serve_objects<F: Files, I: Source, O: Sink>(
     ensures { Follows plain program
         (objects_plan turns.now (all_bytes got.old.items) (texts names.now))
         (F.side files.old) (F.side files.new) (I.side input.old) (I.side input.new)
-        (O.side out.old) (O.side out.new) (end_by stopped_end result) }
+        (O.side out.old) (O.side out.new) (end_by pool_end result) }
 {
     let Some((name, rest)) = split_word(names) else {
         return play_files(alloc, turns, got.as_slice(), input, out);
@@ -50,7 +51,7 @@ fn serve<F: Files, I: Source, O: Sink>(
 ) -> Result<(), PoolStop>
     ensures { Follows plain program (fetch_plan (texts words.now)) (F.side files.old)
         (F.side files.new) (I.side input.old) (I.side input.new) (O.side out.old)
-        (O.side out.new) (end_by stopped_end result) }
+        (O.side out.new) (end_by pool_end result) }
 {
     let Some((turns, objects)) = split_word(words) else {
         return Err(PoolStop::Refused(Refusal::BadWord(1)));
@@ -70,7 +71,7 @@ pub fn perform<F: Files, I: Source, O: Sink>(
 ) -> Result<(), PoolStop>
     ensures { Follows plain program (pool_plan (texts words.now)) (F.side files.old)
         (F.side files.new) (I.side input.old) (I.side input.new) (O.side out.old)
-        (O.side out.new) (end_by stopped_end result) }
+        (O.side out.new) (end_by pool_end result) }
 {
     match bad_file(1, 0, words) {
         Some(word) => Err(PoolStop::Refused(Refusal::BadWord(word))),

@@ -3,10 +3,9 @@ use Rattle.std.proofs.lemmas.Result.{err_from_is_err_and}
 use Rattle.std.specs.Prelude.{All}
 use Rattle.alma_plan.specs.Course.{Goes, hungry}
 use Rattle.alma_plan.specs.Plan.{prints, IsDue}
-use Rattle.alma_plan.specs.Refusals.{stop_end}
+use Rattle.alma_plan.specs.Refusals.{end_by, stop_end}
 use Rattle.alma_plan.proofs.Courses.{gains_none}
 use Rattle.alma_pool.specs.Due.{program, bad_turn_behind, turns_in}
-use Rattle.alma_pool.specs.Ends.{end_by}
 use Rattle.alma_pool.specs.Inner.{codes_of}
 use Rattle.alma_pool.specs.Pool.{PlayerState, PoolView, after_turns}
 use Rattle.alma_pool.proofs.Playing.{begun_fresh, begun_count, played_count}
