@@ -6,11 +6,11 @@ use Rattle.std.specs.Prelude.{◌⊎◌, eqb, cond}
 use Rattle.alma_code.specs.Machine.{State, step, after, prints, start}
 use Rattle.alma_code.specs.Plain.{PlainCode}
 use Rattle.alma_machine.proofs.Budget.{after_more, prints_more, prints_sum}
-use Rattle.alma_pool.specs.Pool.{PlayerState, PoolView, LoneRun, lone_run, seen_of, player_at_start, take_turn, no_program, program_at}
+use Rattle.alma_pool.specs.Pool.{PlayerState, PoolView, LoneRun, seen_of, player_at_start, player_after, take_turn, no_program, program_at}
 use Rattle.alma_pool.specs.Pool.{after_turn}
 use Rattle.alma_pool.specs.Pool.{after_turns}
-use Rattle.alma_pool.specs.Pool.{turns_of, ended_in}
-use Rattle.alma_pool.specs.Laws.{RunAlone, PrintsFront}
+use Rattle.alma_pool.specs.Pool.{turns_of}
+use Rattle.alma_pool.specs.Laws.{StandsAlone, RunAlone, PrintsFront}
 
 -- the program stands where its run alone is after so many turns
 pub record IsAt (code : PlainCode) (input : List ℕ) (turns : ℕ) (p : PlayerState) : Type 0 where
@@ -34,12 +34,14 @@ at_more code input turns p h =
           ∙ sym (prints_more code input turns (start code));
     }
 
--- what is seen of it is what is seen alone
-seen_alone : (code : PlainCode) (input : List ℕ) (turns : ℕ) (p : PlayerState) → IsAt code input turns p
-    → seen_of p ≡ lone_run code input turns
-seen_alone code input turns p h =
-    let made : State → List ℕ → LoneRun = λ s o. record { steps = s.steps; output = o; end = ended_in s.mode } in
-    ap (λ s. made s p.output) h.state_is ∙ ap (made (after code input turns (start code))) h.output_is
+-- so it is the program alone
+is_after : (code : PlainCode) (input : List ℕ) (turns : ℕ) (p : PlayerState) → IsAt code input turns p
+    → p ≡ player_after code input turns
+is_after code input turns p h =
+    let made : PlainCode → List ℕ → State → List ℕ → PlayerState = λ c i s o. record { code = c; input = i; state = s; output = o } in
+    let state = after code input turns (start code) in
+    ap (λ c. made c p.input p.state p.output) h.code_is ∙ ap (λ i. made code i p.state p.output) h.input_is
+    ∙ ap (λ s. made code input s p.output) h.state_is ∙ ap (λ o. made code input state o) h.output_is
 
 -- what one turn of some program makes of it
 at_turn : (pool : PoolView) (j k : ℕ) (code : PlainCode) (input : List ℕ) (t : ℕ) → k < length pool.programs
@@ -82,11 +84,15 @@ at_start code input p e = record {
   output_is = ap (λ q. q.output) e;
 }
 
-pub run_alone : RunAlone
-run_alone pool turns k code input there e =
-    seen_alone code input (turns_of k turns) (program_at (after_turns pool turns) k)
+pub stands_alone : StandsAlone
+stands_alone pool turns k code input there e =
+    is_after code input (turns_of k turns) (program_at (after_turns pool turns) k)
     (subst (λ (n : ℕ). IsAt code input n (program_at (after_turns pool turns) k)) (omega arith)
     (at_turns pool turns k code input 0 there (at_start code input (program_at pool k) e)))
+
+-- and what is seen of it is its run alone
+pub run_alone : RunAlone
+run_alone pool turns k code input there e = ap seen_of (stands_alone pool turns k code input there e)
 
 -- and has printed a front of what it prints alone
 pub prints_front : PrintsFront

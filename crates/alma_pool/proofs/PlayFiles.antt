@@ -9,12 +9,12 @@ use Rattle.alma_verify.specs.Verified.{code_of_verified}
 use Rattle.alma_verify.specs.declared.verified.Verified.{Verified}
 use Rattle.alma_plan.specs.Course.{Follows, whole}
 use Rattle.alma_plan.specs.Plan.{Ending, silent, tells, plain}
-use Rattle.alma_plan.specs.Refusals.{refusal_end}
-use Rattle.alma_plan.specs.declared.refusal.Refusal.{Refusal}
 use Rattle.alma_plan.proofs.Courses.{course_ends, course_starved, gains_none}
 use Rattle.alma_plan.specs.Objects.{object_refusal}
 use Rattle.alma_pool.specs.Due.{program, or_refused, open_objects, play_plan, unless_bad_turn, play_files_plan, bad_turn_behind, turns_in}
+use Rattle.alma_pool.specs.Ends.{pool_end}
 use Rattle.alma_pool.specs.Inner.{codes_of, IsRefused}
+use Rattle.alma_pool.specs.declared.stop.PoolStop.{PoolStop}
 
 -- as many codes as objects
 opened_ok : (o : Option Ending) (rest : Result (List PlainCode) Ending) (all : List PlainCode) → or_refused o rest ≡ Ok all → rest ≡ Ok all
@@ -41,17 +41,17 @@ silent_end end files input out = course_ends plain program (silent end) files in
     (whole (silent end) refl refl refl (gains_none out))
 
 -- an object is refused, or memory ran out before it was known
-pub played_refused : (objects : List (List ℕ)) (turns : List ℕ) (refusal : Refusal) (files : FilesSide) (input : SourceSide)
-    (out : SinkSide) → IsRefused objects refusal
-    → Follows plain program (play_plan (open_objects [] objects) turns) files files input input out out (refusal_end program refusal)
-played_refused objects turns refusal files input out (inl e) =
+pub played_refused : (objects : List (List ℕ)) (turns : List ℕ) (stop : PoolStop) (files : FilesSide) (input : SourceSide)
+    (out : SinkSide) → IsRefused objects stop
+    → Follows plain program (play_plan (open_objects [] objects) turns) files files input input out out (pool_end stop)
+played_refused objects turns stop files input out (inl e) =
     subst (λ (end : Ending). Follows plain program (play_plan (open_objects [] objects) turns) files files input input out out end)
-    (sym (ap (refusal_end program) e))
+    (sym (ap pool_end e))
     (course_starved program _ _ files input out)
-played_refused objects turns refusal files input out (inr e) =
+played_refused objects turns stop files input out (inr e) =
     subst (λ (r : Result (List PlainCode) Ending). Follows plain program (play_plan r turns) files files input input out out
-    (refusal_end program refusal)) (sym e)
-    (silent_end (refusal_end program refusal) files input out)
+    (pool_end stop)) (sym e)
+    (silent_end (pool_end stop) files input out)
 
 module _ (turns : List ℕ) (objects : List (List ℕ)) (files : FilesSide) (input input' : SourceSide) (out out' : SinkSide) where
   -- a byte may not stand in the file of turns

@@ -2,11 +2,18 @@
 use Rattle.std.proofs.Common.{◌≡◌, ◌<◌, ◌+◌, ◌∙◌, ℕ, zero, suc, List, [], ◌∷◌, ◌++◌, length, get_or, take, drop, refl, sym, ap, arith}
 use Rattle.std.proofs.Common.{append_assoc, length-take-le}
 use Rattle.std.proofs.lemmas.List.{append-nil, take-append-drop, take_more, drop_more, get_or-map, length-map}
-use Rattle.std.specs.Prelude.{Option, None, Some, true, codes, decimal}
+use Rattle.std.specs.Prelude.{Option, None, Some, Result, Ok, Err, MatchResult, IsErrAnd, true, codes, decimal}
 use Rattle.alma_code.specs.declared.step.End.{End}
 use Rattle.alma_code.specs.declared.step.End.TheVariants as ended
 use Rattle.alma_code.specs.Plain.{PlainCode}
-use Rattle.alma_pool.specs.Due.{program_lines, program_text, end_text, pool_text}
+use Rattle.alma_io.specs.Outside.{Writes}
+use Rattle.alma_io.specs.Sides.{SinkSide}
+use Rattle.alma_plan.specs.Course.{Goes, cut_short, whole}
+use Rattle.alma_plan.specs.Plan.{IsDue, prints}
+use Rattle.alma_plan.specs.Refusals.{end_by, stop_end}
+use Rattle.alma_plan.specs.declared.stop.Stop.{Stop}
+use Rattle.alma_plan.specs.declared.stop.Stop.TheVariants.{Write}
+use Rattle.alma_pool.specs.Due.{program, program_lines, program_text, end_text, pool_text}
 use Rattle.alma_pool.specs.Inner.{end_word, fault_word, shown_text, players_at_start}
 use Rattle.alma_pool.specs.Pool.{PlayerState, PoolView, LoneRun, lone_run, seen_of, player_at_start, ended_in, no_code, no_program}
 use Rattle.alma_pool.specs.Pool.{program_at}
@@ -124,3 +131,13 @@ shown_alone codes input turns before now start is count =
     let none : k ≡ 0 + k = omega arith in
     ap (λ (p : PoolView). seen_of (program_at p k)) is ∙ run_alone before turns k (get_or codes k no_code) input there at
     ∙ ap (λ n. lone_run (get_or codes k no_code) input (turns_of n turns)) none)
+
+-- ---- the end of a call that shows them
+
+-- it ends well where the bytes were written, and by a write fault where a write failed within them
+pub goes_shown : {E : Type 0} (bytes : List ℕ) (out out' : SinkSide) (wrote : Result (Unit {0}) E) (ended : Result (Unit {0}) Stop)
+    → Writes out out' bytes wrote → MatchResult wrote (λ done. ended ≡ Ok done) (λ _. IsErrAnd ended (λ stop. stop ≡ Write))
+    → Goes program (IsDue (prints bytes)) out out' (end_by (stop_end program) ended)
+goes_shown bytes out out' (Ok done) ended wrote same = rw same (whole (prints bytes) refl refl refl wrote)
+goes_shown bytes out out' (Err fault) (Ok done) wrote same = absurd same
+goes_shown bytes out out' (Err fault) (Err stop) wrote same = rw same (cut_short (prints bytes) refl refl refl wrote)

@@ -7,11 +7,12 @@ use Rattle.alma_code.specs.declared.step.End.TheVariants as ended
 use Rattle.alma_code.specs.Plain.{PlainCode}
 use Rattle.alma_verify.specs.Verified.{code_of_verified}
 use Rattle.alma_verify.specs.declared.verified.Verified.{Verified}
-use Rattle.alma_plan.specs.Refusals.{refusal_end}
-use Rattle.alma_plan.specs.declared.refusal.Refusal.{Refusal}
 use Rattle.alma_plan.specs.declared.refusal.Refusal.TheVariants.{Stopped}
 use Rattle.alma_plan.specs.declared.stop.Stop.TheVariants.{Memory}
-use Rattle.alma_pool.specs.Due.{program, open_objects, program_text}
+use Rattle.alma_pool.specs.Due.{open_objects, program_text}
+use Rattle.alma_pool.specs.Ends.{pool_end}
+use Rattle.alma_pool.specs.declared.stop.PoolStop.{PoolStop}
+use Rattle.alma_pool.specs.declared.stop.PoolStop.TheVariants.{Refused}
 use Rattle.alma_pool.specs.Pool.{PlayerState, player_at_start, seen_of}
 
 -- the bytes of files
@@ -23,8 +24,8 @@ abbrev pub codes_of : List Verified → List PlainCode
 codes_of verified = map code_of_verified verified
 
 -- memory ran out, or it is the end that these objects bring about
-abbrev pub IsRefused : (objects : List (List ℕ)) → Refusal → Type 0
-IsRefused objects refusal = (refusal ≡ Stopped Memory) ⊎ (open_objects [] objects ≡ Err (refusal_end program refusal))
+abbrev pub IsRefused : (objects : List (List ℕ)) → PoolStop → Type 0
+IsRefused objects stop = (stop ≡ Refused (Stopped Memory)) ⊎ (open_objects [] objects ≡ Err (pool_end stop))
 
 -- codes before their first turn, on one input
 abbrev pub players_at_start : List PlainCode → (input : List ℕ) → List PlayerState

@@ -40,6 +40,15 @@ seen_of p = record { steps = p.state.steps; output = p.output; end = ended_in p.
 abbrev pub player_at_start : PlainCode → (input : List ℕ) → PlayerState
 player_at_start code input = record { code = code; input = input; state = start code; output = [] }
 
+-- a program alone after so many turns, or at its end where that is sooner: the whole state of its machine, and all that it has printed
+abbrev pub player_after : PlainCode → (input : List ℕ) → (turns : ℕ) → PlayerState
+player_after code input turns = record {
+  code = code;
+  input = input;
+  state = after code input turns (start code);
+  output = prints code input turns (start code);
+}
+
 -- after one turn: one step, which changes nothing where the program has ended
 abbrev pub take_turn : PlayerState → PlayerState
 take_turn p = record p { state = (step p.code p.input p.state).state; output = p.output ++ (step p.code p.input p.state).printed }

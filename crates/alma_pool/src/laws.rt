@@ -7,13 +7,14 @@ ghost use Rattle.alma_io.specs.Outside.{Outside, IsUndisturbed};
 ghost use Rattle.alma_plan.specs.Plan.{plain};
 ghost use Rattle.alma_driver_words.specs.BadWords.{IsBadWord};
 ghost use Rattle.alma_pool.specs.Due.{fetch_plan, pool_plan, bad_word_plan, program};
-ghost use Rattle.alma_pool.specs.Laws.{RunAlone, PrintsFront};
+ghost use Rattle.alma_pool.specs.Laws.{StandsAlone, RunAlone, PrintsFront};
 ghost use Rattle.alma_pool.specs.Shown.{PlaysPrograms, ShowsPrograms};
 ghost use Rattle.alma_pool.specs.Words.{AsksToPlay, IsRequest};
 
-/// Each program of a pool runs as if it were alone, whatever turns the others take, and has printed
-/// a front of what it prints alone.
+/// Each program of a pool runs as if it were alone, whatever turns the others take: it stands in the
+/// state in which it stands alone, and has printed a front of what it prints alone.
 pub fn programs_run_alone()
+    ensures state { StandsAlone }
     ensures alone { RunAlone }
     ensures front { PrintsFront }
 {}

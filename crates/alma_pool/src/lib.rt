@@ -1,7 +1,6 @@
 //! Programs that take turns: a letter of a file gives one of them one step.
 #![tactic(auto)]
 
-mod end;
 pub mod laws;
 mod main_call;
 mod open;
@@ -9,6 +8,7 @@ mod play;
 mod pool;
 mod serve;
 mod show;
+mod stop;
 mod turns;
 
 pub use main_call::pool_main;

@@ -3,12 +3,13 @@ ghost use Rattle.alma_plan.specs.Causes.{Causes};
 ghost use Rattle.alma_plan.specs.Course.{Answers, Reports};
 ghost use Rattle.alma_io.specs.Outside.{outside_of};
 ghost use Rattle.alma_plan.specs.Plan.{plain};
+ghost use Rattle.alma_plan.specs.Refusals.{end_by};
 ghost use Rattle.alma_driver_words.specs.Words.{texts};
 ghost use Rattle.alma_pool.specs.Due.{program, pool_plan};
 ghost use Rattle.alma_pool.specs.Ends.{pool_end};
 
-use crate::end::PoolEnd;
 use crate::serve::perform;
+use crate::stop::PoolStop;
 use alma_base::Status;
 use alma_driver_words::exit;
 use alma_io::{Files, Sink, Source};
@@ -19,15 +20,15 @@ use std::alloc::Global;
 const PROGRAM: &[u8] = b"alma_pool";
 
 // Says on err how the call ends: the status of that, or that of a write fault where err fails.
-fn tell<E: Sink>(err: &mut E, end: PoolEnd) -> Status
-    ensures { Reports (pool_end end) (E.side err.old) (E.side err.new) result.0 }
+fn tell<E: Sink>(err: &mut E, ended: Result<(), PoolStop>) -> Status
+    ensures { Reports (end_by pool_end ended) (E.side err.old) (E.side err.new) result.0 }
 {
-    match end {
-        PoolEnd::Shown => Status(exit::SUCCEEDED),
-        PoolEnd::BadTurn(turn) => {
+    match ended {
+        Ok(()) => Status(exit::SUCCEEDED),
+        Err(PoolStop::BadTurn(turn)) => {
             tell_number(err, PROGRAM, exit::OWN_REFUSAL, b"bad turn ", turn as u64)
         }
-        PoolEnd::Refused(refusal) => refuse(err, PROGRAM, refusal),
+        Err(PoolStop::Refused(refusal)) => refuse(err, PROGRAM, refusal),
     }
 }
 
@@ -57,6 +58,6 @@ pub fn pool_main<F: Files, I: Source, O: Sink, E: Sink>(
         (outside_of (F.side files.new) (I.side input.new) (O.side out.new) (E.side err.new))
         result.0 }
 {
-    let end = perform(alloc, words, files, input, out);
-    tell(err, end)
+    let ended = perform(alloc, words, files, input, out);
+    tell(err, ended)
 }

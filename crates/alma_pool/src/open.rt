@@ -5,22 +5,21 @@ ghost use Rattle.alma_code.specs.Reads.{code_reads};
 ghost use Rattle.alma_pool.specs.Due.{open_objects};
 ghost use Rattle.alma_pool.specs.Inner.{all_bytes, codes_of, IsRefused};
 
-use alma_plan::{Refusal, Stop, open_code};
+use crate::stop::PoolStop;
+use alma_plan::open_code;
 use alma_verify::Verified;
 use std::alloc::Global;
 
 /// The verified codes of objects, or why the first of them that is refused is so.
-pub fn open_all(alloc: Global, objects: &[Vec<u8>]) -> Result<Vec<Verified<'_>>, Refusal>
+pub fn open_all(alloc: Global, objects: &[Vec<u8>]) -> Result<Vec<Verified<'_>>, PoolStop>
     ensures codes { IfOk result (λ verified. open_objects [] (all_bytes objects.now)
         ≡ Ok (codes_of verified.items)) }
-    ensures refused { IfErr result (λ refusal. IsRefused (all_bytes objects.now) refusal) }
+    ensures refused { IfErr result (λ stop. IsRefused (all_bytes objects.now) stop) }
 {
     let mut verified = Vec::new(alloc);
     for bytes in objects {
         let code = open_code(bytes)?;
-        if verified.push(code).is_err() {
-            return Err(Refusal::Stopped(Stop::Memory));
-        }
+        verified.push(code)?;
     }
     Ok(verified)
 }

@@ -6,19 +6,20 @@ ghost use Rattle.alma_code.specs.Reads.{code_reads};
 ghost use Rattle.alma_io.specs.Sides.{FilesSide};
 ghost use Rattle.alma_plan.specs.Course.{Follows, Goes};
 ghost use Rattle.alma_plan.specs.Plan.{Reads, prints, IsDue, plain};
+ghost use Rattle.alma_plan.specs.Refusals.{end_by, stop_end};
 ghost use Rattle.alma_pool.specs.Due.{program, bad_turn_behind, play_files_plan, open_objects, play_plan, play_on_plan, pool_text, turns_in, turns_limit};
 ghost use Rattle.alma_pool.specs.Ends.{pool_end};
 ghost use Rattle.alma_pool.specs.Inner.{players_at_start, all_bytes, codes_of, shown_text};
 ghost use Rattle.alma_pool.specs.Pool.{after_turns};
 
-use crate::end::PoolEnd;
 use crate::open::{any_reads, open_all};
 use crate::pool::Pool;
 use crate::show::show_all;
+use crate::stop::PoolStop;
 use crate::turns::{bad_turn, play_all};
 use alma_base::{INPUT_LIMIT, NoMemory};
 use alma_io::{Sink, Source, read_all};
-use alma_plan::{Refusal, Stop};
+use alma_plan::Stop;
 use alma_verify::Verified;
 use std::alloc::Global;
 
@@ -42,22 +43,17 @@ fn gather<'b, 'i>(
 }
 
 // Makes all turns by programs that made no step so far, and shows them.
-fn play_in<O: Sink>(pool: &mut Pool<'_, '_>, turns: &[u8], out: &mut O) -> PoolEnd
+fn play_in<O: Sink>(pool: &mut Pool<'_, '_>, turns: &[u8], out: &mut O) -> Result<(), Stop>
     requires whole { IsTrue pool.old.whole }
     requires fresh { All (λ p. p.state.steps ≡ 0) pool.old.programs }
     requires good { bad_turn_behind (length pool.old.programs) 0 turns.now ≡ None }
     requires short { length turns.now ≤ turns_limit }
     ensures { Goes program (IsDue (prints (shown_text 0
         (after_turns pool.old (turns_in turns.now)).programs))) (O.side out.old) (O.side out.new)
-        (pool_end result) }
+        (end_by (stop_end program) result) }
 {
-    if play_all(pool, turns).is_err() {
-        return PoolEnd::Refused(Refusal::Stopped(Stop::Memory));
-    }
-    match show_all(pool, out) {
-        Ok(()) => PoolEnd::Shown,
-        Err(_) => PoolEnd::Refused(Refusal::Stopped(Stop::Write)),
-    }
+    play_all(pool, turns)?;
+    show_all(pool, out).map_err(|_| Stop::Write)
 }
 
 // Makes all turns by these codes on an input, and shows them.
@@ -67,17 +63,16 @@ fn play_on<O: Sink>(
     turns: &[u8],
     input: &[u8],
     out: &mut O,
-) -> PoolEnd
+) -> Result<(), Stop>
     requires good { bad_turn_behind (length verified.now) 0 turns.now ≡ None }
     requires short { length turns.now ≤ turns_limit }
     requires lawful { length input.now ≤ input_limit }
     ensures { Goes program (IsDue (prints (pool_text 0 (codes_of verified.now) input.now
-        (turns_in turns.now)))) (O.side out.old) (O.side out.new) (pool_end result) }
+        (turns_in turns.now)))) (O.side out.old) (O.side out.new)
+        (end_by (stop_end program) result) }
 {
-    match gather(alloc, verified, input) {
-        Ok(mut pool) => play_in(&mut pool, turns, out),
-        Err(NoMemory) => PoolEnd::Refused(Refusal::Stopped(Stop::Memory)),
-    }
+    let mut pool = gather(alloc, verified, input)?;
+    play_in(&mut pool, turns, out)
 }
 
 // Reads the whole input, makes all turns on it, and shows the programs.
@@ -87,18 +82,16 @@ fn play_reading<I: Source, O: Sink>(
     turns: &[u8],
     input: &mut I,
     out: &mut O,
-) -> PoolEnd
+) -> Result<(), Stop>
     requires good { bad_turn_behind (length verified.now) 0 turns.now ≡ None }
     requires short { length turns.now ≤ turns_limit }
     ensures { (files : FilesSide) → Follows plain program
         (Reads (λ bytes. prints (pool_text 0 (codes_of verified.now) bytes (turns_in turns.now))))
         files files (I.side input.old) (I.side input.new) (O.side out.old) (O.side out.new)
-        (pool_end result) }
+        (end_by (stop_end program) result) }
 {
-    match read_all(alloc, input, INPUT_LIMIT) {
-        Ok(bytes) => play_on(alloc, verified, turns, &bytes, out),
-        Err(error) => PoolEnd::Refused(Refusal::Stopped(Stop::from(error))),
-    }
+    let bytes = read_all(alloc, input, INPUT_LIMIT)?;
+    play_on(alloc, verified, turns, &bytes, out)
 }
 
 // Makes all turns, and shows the programs. The input is read where one of the codes reads.
@@ -108,18 +101,19 @@ fn play<I: Source, O: Sink>(
     turns: &[u8],
     input: &mut I,
     out: &mut O,
-) -> PoolEnd
+) -> Result<(), Stop>
     requires good { bad_turn_behind (length verified.now) 0 turns.now ≡ None }
     requires short { length turns.now ≤ turns_limit }
     ensures { (files : FilesSide) → Follows plain program
         (play_on_plan (list_any code_reads (codes_of verified.now)) (codes_of verified.now)
         (turns_in turns.now)) files files (I.side input.old) (I.side input.new) (O.side out.old)
-        (O.side out.new) (pool_end result) }
+        (O.side out.new) (end_by (stop_end program) result) }
 {
     if any_reads(verified) {
-        return play_reading(alloc, verified, turns, input, out);
+        play_reading(alloc, verified, turns, input, out)
+    } else {
+        play_on(alloc, verified, turns, b"", out)
     }
-    play_on(alloc, verified, turns, b"", out)
 }
 
 // Opens the objects, makes all turns, and shows the programs.
@@ -129,18 +123,17 @@ fn play_objects<I: Source, O: Sink>(
     objects: &[Vec<u8>],
     input: &mut I,
     out: &mut O,
-) -> PoolEnd
+) -> Result<(), PoolStop>
     requires good { bad_turn_behind (length objects.now) 0 turns.now ≡ None }
     requires short { length turns.now ≤ turns_limit }
     ensures { (files : FilesSide) → Follows plain program
         (play_plan (open_objects [] (all_bytes objects.now)) (turns_in turns.now)) files files
         (I.side input.old) (I.side input.new) (O.side out.old) (O.side out.new)
-        (pool_end result) }
+        (end_by pool_end result) }
 {
-    match open_all(alloc, objects) {
-        Ok(verified) => play(alloc, &verified, turns, input, out),
-        Err(refusal) => PoolEnd::Refused(refusal),
-    }
+    let verified = open_all(alloc, objects)?;
+    play(alloc, &verified, turns, input, out)?;
+    Ok(())
 }
 
 /// All files are there: the turns are made, unless one of them may not stand there, or an object is
@@ -151,15 +144,15 @@ pub fn play_files<I: Source, O: Sink>(
     objects: &[Vec<u8>],
     input: &mut I,
     out: &mut O,
-) -> PoolEnd
+) -> Result<(), PoolStop>
     requires { length turns.now ≤ turns_limit }
     ensures { (files : FilesSide) → Follows plain program
         (play_files_plan turns.now (all_bytes objects.now)) files files
         (I.side input.old) (I.side input.new) (O.side out.old) (O.side out.new)
-        (pool_end result) }
+        (end_by pool_end result) }
 {
     match bad_turn(objects.len(), turns) {
-        Some(turn) => PoolEnd::BadTurn(turn),
+        Some(turn) => Err(PoolStop::BadTurn(turn)),
         None => play_objects(alloc, turns, objects, input, out),
     }
 }

@@ -7,8 +7,10 @@ use Rattle.alma_pool.specs.Inner.{all_bytes, codes_of}
 use Rattle.alma_pool.proofs.Opening.{opening_stops, opening_more, opening_ends, codes_more}
 use Rattle.alma_pool.proofs.open.open_all.Goals as goal
 
-pub returns-then-is_err-clause-refused : goal.returns-then-is_err-clause-refused
-returns-then-is_err-clause-refused c = inl refl
+pub returns-in_err-push-clause-refused : goal.returns-in_err-push-clause-refused
+returns-in_err-push-clause-refused c =
+    let p = err_from_is_err_and c.from_residual-in_err-push.result c.from_residual-in_err-push.ensures.1 in
+    rw (p.1, p.2) (inl refl)
 
 pub returns-in_err-code-clause-refused : goal.returns-in_err-code-clause-refused
 returns-in_err-code-clause-refused c =
@@ -19,7 +21,7 @@ returns-in_err-code-clause-refused c =
 
 pub loop-bytes-preserved : goal.loop-bytes-preserved
 loop-bytes-preserved c =
-    let more = rw (c.is_err.ensures.negation, c.if-is_err.false) at c.push.ensures.items in
+    let more = c.in_ok-push.ensures.items in
     opening_more c.args.objects.now c.loop-bytes.bytes-index c.bytes-item.result _ (codes_of c.loop-bytes.verified.items)
     c.loop-bytes-test.true c.bytes-item.is
     c.loop-bytes.invariant (code_of_verified c.in_ok-code.code)
