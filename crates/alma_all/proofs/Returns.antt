@@ -1,6 +1,6 @@
 -- Whether the body of a module returns.
 use Rattle.std.proofs.Common.{◌≡◌, ◌∙◌, ℕ, List, [], ◌∷◌, ap, refl, subst, sym}
-use Rattle.std.specs.Prelude.{Bool, true, false, ◌||◌, codes}
+use Rattle.std.specs.Prelude.{Bool, true, false, ◌||◌, codes, Err}
 use Rattle.std.specs.List.{list_any, AllByRecursion}
 use Rattle.alma_ir.specs.Checked.{HaveNoReturn, IsNoReturn}
 use Rattle.alma_ir.specs.Phrases.{Phrase, StmtPhrase, TestPhrase, ExprPhrase, ArgPhrase, DesigPhrase, SelPhrase, stmts_phrases}
@@ -8,11 +8,14 @@ use Rattle.alma_ir.specs.Tree.{Program, TestStmt, Assign, CopyCells, If, While, 
 use Rattle.alma_ir.specs.Tree.{Return, Read, WriteExpr, WriteText, WriteLine, routine_at}
 use Rattle.alma_io.specs.Sides.{SinkSide, SourceSide, FilesSide}
 use Rattle.alma_listing.specs.Lister.{listing_of}
-use Rattle.alma_plan.proofs.Courses.{course_ends, gains_none}
+use Rattle.alma_listing.specs.declared.program.ListingError.{ListingError}
+use Rattle.alma_listing.specs.declared.program.ListingError.TheVariants as listing
+use Rattle.alma_plan.proofs.Courses.{course_ends, course_starved, gains_none}
 use Rattle.alma_plan.specs.Course.{Follows, whole}
 use Rattle.alma_plan.specs.Plan.{Ending, silent, tells}
 use Rattle.alma_plan.specs.Programs.{Tells, run_plan}
 use Rattle.alma_all.specs.All.{program, all_sense, is_return, body_returns, list_plan, unless_returns}
+use Rattle.alma_all.specs.Ends.{all_end, listing_error}
 
 -- a phrase that is no RETURN
 not_return : (x : Phrase) → IsNoReturn x → is_return x ≡ false
@@ -99,8 +102,8 @@ course_listed p q steps files input input' out out' end stays is course =
     (sym (body_stays p stays))
     (subst (λ (x : Program). Follows all_sense program (run_plan program x steps) files files input input' out out' end) is course)
 
--- and one whose body returns is refused
-pub course_returns : (p : Program) (steps : ℕ) (files : FilesSide) (input : SourceSide) (out : SinkSide)
+-- one whose body returns is refused
+course_returns : (p : Program) (steps : ℕ) (files : FilesSide) (input : SourceSide) (out : SinkSide)
     → (HaveNoReturn (routine_at p 0).body → ⊥)
     → Follows all_sense program (list_plan p steps) files files input input out out (tells program 13 (codes "ModuleReturn"))
 course_returns p steps files input out some =
@@ -108,3 +111,10 @@ course_returns p steps files input out some =
     (tells program 13 (codes "ModuleReturn"))) (sym (returns_there p some))
     (course_ends all_sense program (Tells (silent (tells program 13 (codes "ModuleReturn")))) files input out out _
     (whole (silent (tells program 13 (codes "ModuleReturn"))) refl refl refl (gains_none out)))
+
+-- and one that none lists comes to the end of that
+pub course_unlisted : (p : Program) (steps : ℕ) (files : FilesSide) (input : SourceSide) (out : SinkSide) (fault : ListingError)
+    → (fault ≡ listing.ModuleReturn → HaveNoReturn (routine_at p 0).body → ⊥)
+    → Follows all_sense program (list_plan p steps) files files input input out out (all_end (Err (listing_error fault)))
+course_unlisted p steps files input out listing.ModuleReturn some = course_returns p steps files input out (some refl)
+course_unlisted p steps files input out listing.Memory some = course_starved program _ _ files input out

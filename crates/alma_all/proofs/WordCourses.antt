@@ -7,16 +7,15 @@ use Rattle.std.specs.declared.alloc.Global.{Global}
 use Rattle.alma_io.specs.Sides.{SinkSide, SourceSide, FilesSide}
 use Rattle.alma_plan.proofs.Courses.{course_ends, gains_none}
 use Rattle.alma_plan.specs.Course.{Follows, whole}
-use Rattle.alma_plan.specs.Plan.{bad_word, silent}
+use Rattle.alma_plan.specs.Plan.{Ending, silent}
 use Rattle.alma_driver_words.specs.Words.{texts}
 use Rattle.alma_plan.specs.Programs.{Tells}
-use Rattle.alma_all.specs.All.{program, all_sense, bad_word_plan}
+use Rattle.alma_all.specs.All.{program, all_sense, end_plan}
 
-pub course_bad : (word : ℕ) (files : FilesSide) (input : SourceSide) (out : SinkSide)
-    → Follows all_sense program (bad_word_plan word) files files input input out out (bad_word program word)
-course_bad word files input out =
-    course_ends all_sense program (Tells (silent (bad_word program word))) files input out out _
-    (whole (silent (bad_word program word)) refl refl refl (gains_none out))
+pub course_end : (end : Ending) (files : FilesSide) (input : SourceSide) (out : SinkSide)
+    → Follows all_sense program (end_plan end) files files input input out out end
+course_end end files input out =
+    course_ends all_sense program (Tells (silent end)) files input out out end (whole (silent end) refl refl refl (gains_none out))
 
 -- no words, and some
 pub no_word : (words : List (String Global)) → true ≡ eqb (length words) 0 → texts words ≡ []

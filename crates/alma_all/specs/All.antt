@@ -68,9 +68,13 @@ list_plan p steps = unless_returns (body_returns p) p steps
 abbrev pub file_plan : (file : List ℕ) → (steps : ℕ) → Plan Verdict Last
 file_plan file steps = read_source file (λ p. list_plan p steps)
 
+-- a call that comes to an end without a print
+abbrev pub end_plan : Ending → Plan Verdict Last
+end_plan end = Ends (Tells (silent end))
+
 -- a word that cannot stand where it is, or one more than there are
 abbrev pub bad_word_plan : (word : ℕ) → Plan Verdict Last
-bad_word_plan word = Ends (Tells (silent (bad_word program word)))
+bad_word_plan word = end_plan (bad_word program word)
 
 -- a file, the number of steps that the second word names, and the words behind
 abbrev pub with_steps : (file : List ℕ) → Option ℕ → (more : List (List ℕ)) → Plan Verdict Last

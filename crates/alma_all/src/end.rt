@@ -1,15 +1,38 @@
-// How a call ends.
-use alma_plan::{FileStop, ProgramEnd};
+// How a call ends that lists nothing.
+ghost use Rattle.std.specs.Prelude.{◌≡◌};
+ghost use Rattle.alma_all.specs.Ends.{listing_error};
 
-/// How a call ends, but for what becomes of its text on err.
+use alma_listing::ListingError;
+use alma_plan::{FileStop, Refusal, Stop};
+
+/// Why a call lists nothing, but for what becomes of its text on err.
 #[derive(Clone, Copy)]
-pub enum AllEnd {
-    /// The first word, from 1, that cannot stand where it is, or one more than there are.
-    BadWord(usize),
-    /// The file gives no program.
-    Unread(FileStop),
+pub enum AllError<'w> {
+    /// The call is refused as every program may refuse.
+    Refused(Refusal),
+    /// The file of this name gives no program.
+    Unread(&'w str, FileStop),
     /// A RETURN stands in the body of the module.
     ModuleReturn,
-    /// The program that lists the alternatives was run, or not compiled.
-    Performed(ProgramEnd),
+}
+
+impl<'w> From<Refusal> for AllError<'w> {
+    ghost use Rattle.alma_all.specs.declared.end.AllError.TheVariants.{Refused};
+
+    ghost from_gives = { λ refusal error. error ≡ Refused refusal };
+
+    fn from(refusal: Refusal) -> Self {
+        AllError::Refused(refusal)
+    }
+}
+
+impl<'w> From<ListingError> for AllError<'w> {
+    ghost from_gives = { λ fault error. error ≡ listing_error fault };
+
+    fn from(fault: ListingError) -> Self {
+        match fault {
+            ListingError::ModuleReturn => AllError::ModuleReturn,
+            ListingError::Memory => AllError::Refused(Refusal::from(Stop::Memory)),
+        }
+    }
 }

@@ -4,29 +4,38 @@ ghost use Rattle.alma_plan.specs.Course.{Answers, Reports};
 ghost use Rattle.alma_io.specs.Outside.{outside_of};
 ghost use Rattle.alma_driver_words.specs.Words.{texts};
 ghost use Rattle.alma_all.specs.All.{program, all_sense, all_plan};
-ghost use Rattle.alma_all.specs.Ends.{all_end};
+ghost use Rattle.alma_all.specs.Ends.{all_end, error_end};
 
-use crate::end::AllEnd;
+use crate::end::AllError;
 use crate::serve::perform;
-use crate::words::first_word;
 use alma_base::Status;
 use alma_driver_words::exit;
 use alma_io::{Files, Sink, Source};
-use alma_plan::{Refusal, refuse, tell_file, tell_line, tell_program};
+use alma_plan::{ProgramEnd, refuse, tell_file, tell_line, tell_program};
 use std::alloc::Global;
 
 /// The name of the program.
 const PROGRAM: &[u8] = b"alma_all";
 
+// Says on err why the call lists nothing: the status of that, or that of a write fault where err
+// fails.
+fn tell_error<E: Sink>(err: &mut E, error: AllError<'_>) -> Status
+    ensures { Reports (error_end error.entry) (E.side err.old) (E.side err.new) result.0 }
+{
+    match error {
+        AllError::Refused(refusal) => refuse(err, PROGRAM, refusal),
+        AllError::Unread(file, stop) => tell_file(err, PROGRAM, file.as_bytes(), stop),
+        AllError::ModuleReturn => tell_line(err, PROGRAM, exit::OWN_REFUSAL, b"ModuleReturn"),
+    }
+}
+
 // Says on err how the call ends: the status of that, or that of a write fault where err fails.
-fn tell<E: Sink>(err: &mut E, file: &str, end: AllEnd) -> Status
-    ensures { Reports (all_end file.now end) (E.side err.old) (E.side err.new) result.0 }
+fn tell<E: Sink>(err: &mut E, end: Result<ProgramEnd, AllError<'_>>) -> Status
+    ensures { Reports (all_end end.entry) (E.side err.old) (E.side err.new) result.0 }
 {
     match end {
-        AllEnd::BadWord(word) => refuse(err, PROGRAM, Refusal::BadWord(word)),
-        AllEnd::Unread(stop) => tell_file(err, PROGRAM, file.as_bytes(), stop),
-        AllEnd::ModuleReturn => { tell_line(err, PROGRAM, exit::OWN_REFUSAL, b"ModuleReturn") }
-        AllEnd::Performed(end) => tell_program(err, PROGRAM, exit::SUCCEEDED, end),
+        Ok(end) => tell_program(err, PROGRAM, exit::SUCCEEDED, end),
+        Err(error) => tell_error(err, error),
     }
 }
 
@@ -59,5 +68,5 @@ pub fn all<F: Files, I: Source, O: Sink, E: Sink>(
         result.0 }
 {
     let end = perform(alloc, words, files, input, out);
-    tell(err, first_word(words), end)
+    tell(err, end)
 }

@@ -1,3 +1,4 @@
+mod Mapped
 mod WordLemmas
 mod UnitLemmas
 mod Plans

@@ -12,6 +12,9 @@ use Rattle.alma_plan.specs.Course.{Follows, whole}
 use Rattle.alma_plan.specs.Plan.{Ending, Ends, bad_word, silent, tells}
 use Rattle.alma_plan.proofs.Courses.{course_ends, course_starved, gains_none}
 use Rattle.alma_plan.specs.Programs.{Tells, sense}
+use Rattle.alma_plan.specs.Refusals.{refusal_end}
+use Rattle.alma_plan.specs.declared.refusal.Refusal.{Refusal}
+use Rattle.alma_plan.specs.declared.refusal.Refusal.TheVariants.{BadWord}
 use Rattle.alma_plan.proofs.Owns.{own_read_source, own_run_plan, own_status, own_store_plan, own_tells}
 use Rattle.alma_link.specs.Words.{Task, Run, Compile, Request, request_of}
 use Rattle.alma_driver_words.specs.Words.{default_steps}
@@ -24,6 +27,12 @@ pub silent_end : (end : Ending) (files : FilesSide) (input : SourceSide) (out : 
 silent_end end files input out =
     course_ends (sense program failure) program (Tells (silent end)) files input out out end
     (whole (silent end) refl refl refl (gains_none out))
+
+-- words with a bad one are refused
+pub course_bad : (words : List (List ℕ)) (word : ℕ) (refusal : Refusal) (files : FilesSide) (input : SourceSide) (out : SinkSide)
+    → request_of words ≡ Err word → refusal ≡ BadWord word
+    → Follows (sense program failure) program (link_plan words) files files input input out out (refusal_end program refusal)
+course_bad words word refusal files input out bad is = rw (bad, is) (silent_end (bad_word program word) files input out)
 
 -- ---- modules
 

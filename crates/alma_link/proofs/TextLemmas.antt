@@ -5,14 +5,15 @@ use Rattle.alma_plan.specs.Plan.{line_of}
 use Rattle.alma_link.specs.Link.{program}
 
 -- of an import
-pub import_parts : (front fault number space name end : List ℕ) (unit : ℕ) → front ≡ codes "alma_link: " → number ≡ decimal unit
-    → space ≡ codes " "
-    → end ≡ codes "\n"
-    → front ++ (fault ++ (number ++ (space ++ (name ++ (end ++ []))))) ≡ line_of program (fault ++ (decimal unit ++ (codes " " ++ name)))
-import_parts front fault number space name end unit f n b e =
-    ap (λ x. x ++ (fault ++ (number ++ (space ++ (name ++ (end ++ [])))))) f
-    ∙ ap (λ x. codes "alma_link: " ++ (fault ++ (x ++ (space ++ (name ++ (end ++ [])))))) n
-    ∙ ap (λ x. codes "alma_link: " ++ (fault ++ (decimal unit ++ (x ++ (name ++ (end ++ [])))))) b
-    ∙ ap (λ x. codes "alma_link: " ++ (fault ++ (decimal unit ++ (codes " " ++ (name ++ (x ++ [])))))) e
-    ∙ ap (λ x. codes "alma_link: " ++ (fault ++ x)) (sym (append_assoc (decimal unit) (codes " " ++ name) (codes "\n")))
-    ∙ ap (λ x. codes "alma_link: " ++ x) (sym (append_assoc fault (decimal unit ++ (codes " " ++ name)) (codes "\n")))
+pub import_parts : (front fault number space name end text : List ℕ) (unit : ℕ) → front ≡ codes ": " → number ≡ decimal unit
+    → space ≡ codes " " → name ≡ text → end ≡ codes "\n"
+    → program ++ (front ++ (fault ++ (number ++ (space ++ (name ++ (end ++ []))))))
+    ≡ line_of program (fault ++ (decimal unit ++ (codes " " ++ text)))
+import_parts front fault number space name end text unit f n b t e =
+    ap (λ x. program ++ (x ++ (fault ++ (number ++ (space ++ (name ++ (end ++ []))))))) f
+    ∙ ap (λ x. program ++ (codes ": " ++ (fault ++ (x ++ (space ++ (name ++ (end ++ []))))))) n
+    ∙ ap (λ x. program ++ (codes ": " ++ (fault ++ (decimal unit ++ (x ++ (name ++ (end ++ []))))))) b
+    ∙ ap (λ x. program ++ (codes ": " ++ (fault ++ (decimal unit ++ (codes " " ++ (x ++ (end ++ []))))))) t
+    ∙ ap (λ x. program ++ (codes ": " ++ (fault ++ (decimal unit ++ (codes " " ++ (text ++ (x ++ []))))))) e
+    ∙ ap (λ x. program ++ (codes ": " ++ (fault ++ x))) (sym (append_assoc (decimal unit) (codes " " ++ text) (codes "\n")))
+    ∙ ap (λ x. program ++ (codes ": " ++ x)) (sym (append_assoc fault (decimal unit ++ (codes " " ++ text)) (codes "\n")))

@@ -1,14 +1,18 @@
 -- The ends of a call, as they are due.
-use Rattle.std.specs.Prelude.{List}
+use Rattle.std.specs.Prelude.{List, Result, Ok, Err}
 use Rattle.alma_ir.specs.Tree.{Program}
 use Rattle.alma_join.specs.declared.error.JoinError.{JoinError}
 use Rattle.alma_join.specs.declared.error.JoinError.TheVariants as join
 use Rattle.alma_join.specs.Joined as fault
-use Rattle.alma_plan.specs.Plan.{Ending, bad_word, no_memory}
+use Rattle.alma_plan.specs.Plan.{Ending, no_memory}
 use Rattle.alma_driver_words.specs.Words.{texts}
 use Rattle.alma_plan.specs.Ends.{file_end, program_end}
-use Rattle.alma_link.specs.declared.end.LinkEnd.{LinkEnd}
-use Rattle.alma_link.specs.declared.end.LinkEnd.TheVariants.{BadWord, Unread, Unjoined, Performed}
+use Rattle.alma_plan.specs.Refusals.{refusal_end}
+use Rattle.alma_plan.specs.declared.end.ProgramEnd.{ProgramEnd}
+use Rattle.alma_plan.specs.declared.refusal.Refusal.TheVariants.{Stopped}
+use Rattle.alma_plan.specs.declared.stop.Stop.TheVariants.{Memory}
+use Rattle.alma_link.specs.declared.end.LinkError.{LinkError}
+use Rattle.alma_link.specs.declared.end.LinkError.TheVariants.{Refused, Unread, Unjoined}
 use Rattle.alma_link.specs.declared.words.Task as word_task
 use Rattle.alma_link.specs.declared.words.Task.TheVariants as word
 use Rattle.alma_link.specs.declared.words.Request as words
@@ -32,9 +36,17 @@ join_end units (join.HeadDiffers unit routine) = join_refusal units (fault.HeadD
 join_end units (join.TooLarge unit) = join_refusal units (fault.TooLarge unit)
 join_end units join.Memory = no_memory program
 
--- how a call ends that read these modules
-abbrev pub link_end : List Program → LinkEnd → Ending
-link_end units (BadWord word) = bad_word program word
-link_end units (Unread file stop) = file_end program file.now stop
-link_end units (Unjoined error) = join_end units error
-link_end units (Performed end) = program_end program failure end
+-- why a call performs nothing for which memory ran out
+abbrev pub starved : LinkError
+starved = Refused (Stopped Memory)
+
+-- how a call ends that performs nothing, and read these modules
+abbrev pub error_end : List Program → LinkError → Ending
+error_end units (Refused refusal) = refusal_end program refusal
+error_end units (Unread file stop) = file_end program file.now stop
+error_end units (Unjoined error) = join_end units error
+
+-- how a call ends that read these modules: as their joined program does, or without one
+abbrev pub link_end : List Program → Result ProgramEnd LinkError → Ending
+link_end units (Ok end) = program_end program failure end
+link_end units (Err error) = error_end units error

@@ -1,16 +1,47 @@
-// How a call ends.
-use alma_join::JoinError;
-use alma_plan::{FileStop, ProgramEnd};
+// How a call ends that performs nothing.
+ghost use Rattle.std.specs.Prelude.{◌≡◌};
 
-/// How a call ends, but for what becomes of its text on err.
+use alma_join::JoinError;
+use alma_plan::{FileStop, Refusal, Stop};
+use std::alloc::AllocFailed;
+
+/// Why a call neither runs a program nor stores one, but for what becomes of its text on err.
 #[derive(Clone, Copy)]
-pub enum LinkEnd<'w> {
-    /// The first word, from 1, that cannot stand where it is, or one more than there are.
-    BadWord(usize),
+pub enum LinkError<'w> {
+    /// The call is refused as every program may refuse.
+    Refused(Refusal),
     /// The file of this name gives no module.
     Unread(&'w str, FileStop),
     /// The modules are not joined.
     Unjoined(JoinError),
-    /// The joined program was run, or its object stored.
-    Performed(ProgramEnd),
+}
+
+impl<'w> From<Refusal> for LinkError<'w> {
+    ghost use Rattle.alma_link.specs.declared.end.LinkError.TheVariants.{Refused};
+
+    ghost from_gives = { λ refusal error. error ≡ Refused refusal };
+
+    fn from(refusal: Refusal) -> Self {
+        LinkError::Refused(refusal)
+    }
+}
+
+impl<'w> From<JoinError> for LinkError<'w> {
+    ghost use Rattle.alma_link.specs.declared.end.LinkError.TheVariants.{Unjoined};
+
+    ghost from_gives = { λ fault error. error ≡ Unjoined fault };
+
+    fn from(fault: JoinError) -> Self {
+        LinkError::Unjoined(fault)
+    }
+}
+
+impl<'w, T: Drop> From<AllocFailed<T>> for LinkError<'w> {
+    ghost use Rattle.alma_link.specs.Ends.{starved};
+
+    ghost from_gives = { λ _ error. error ≡ starved };
+
+    fn from(_: AllocFailed<T>) -> Self {
+        LinkError::Refused(Refusal::from(Stop::Memory))
+    }
 }

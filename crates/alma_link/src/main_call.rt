@@ -1,5 +1,5 @@
 // The top call: from the words to the status.
-ghost use Rattle.std.specs.Prelude.{◌≡◌, ◌++◌, codes, decimal, map};
+ghost use Rattle.std.specs.Prelude.{◌≡◌, map};
 ghost use Rattle.alma_ir.specs.Tree.{routine_at};
 ghost use Rattle.alma_ir.specs.View.{program_of};
 ghost use Rattle.alma_plan.specs.Causes.{Causes};
@@ -9,17 +9,17 @@ ghost use Rattle.alma_plan.specs.Plan.{tells};
 ghost use Rattle.alma_driver_words.specs.Exit as exit;
 ghost use Rattle.alma_driver_words.specs.Words.{texts};
 ghost use Rattle.alma_plan.specs.Programs.{sense};
-ghost use Rattle.alma_link.specs.Ends.{join_end, link_end};
-ghost use Rattle.alma_link.specs.Link.{failure, link_plan, program, unit_at};
+ghost use Rattle.alma_link.specs.Ends.{error_end, join_end, link_end};
+ghost use Rattle.alma_link.specs.Link.{failure, import_text, link_plan, program, unit_at};
 
-use crate::end::LinkEnd;
+use crate::end::LinkError;
 use crate::serve::perform;
 use alma_base::Status;
 use alma_driver_words::exit;
 use alma_io::{Files, Sink, Source};
 use alma_ir::Program;
 use alma_join::JoinError;
-use alma_plan::{Refusal, Stop, refuse, report, tell_file, tell_number, tell_program};
+use alma_plan::{ProgramEnd, Refusal, Stop, refuse, report, tell_file, tell_number, tell_program};
 use itoa::Buffer;
 use std::alloc::Global;
 
@@ -40,22 +40,28 @@ fn routine_name(units: &[Program], unit: u32, routine: u32) -> &[u8]
     }
 }
 
-// Says which fault an import of this name has, by the number of its module.
-fn tell_import<'t, E: Sink>(err: &mut E, fault: &'t [u8], unit: u32, name: &'t [u8]) -> Status
+// Says which fault an import has, by its module and its number there.
+fn tell_import<'t, E: Sink>(
+    err: &mut E,
+    fault: &'t [u8],
+    units: &'t [Program],
+    unit: u32,
+    routine: u32,
+) -> Status
     ensures { Reports (tells program exit.own_refusal
-        (fault.now ++ (decimal unit ++ (codes " " ++ name.now))))
+        (import_text fault.now (map program_of units.now) unit routine))
         (E.side err.old) (E.side err.new) result.0 }
 {
     let mut digits = Buffer::new();
-    // `PROGRAM`, with what stands behind it in a line on err.
-    let front = b"alma_link: ".as_slice();
+    let front = b": ".as_slice();
     let number = digits.format(unit).as_bytes();
     let space = b" ".as_slice();
+    let name = routine_name(units, unit, routine);
     let end = b"\n".as_slice();
     report(
         err,
         exit::OWN_REFUSAL,
-        &[front, fault, number, space, name, end],
+        &[PROGRAM, front, fault, number, space, name, end],
     )
 }
 
@@ -65,19 +71,10 @@ fn tell_join<E: Sink>(err: &mut E, units: &[Program], error: JoinError) -> Statu
         result.0 }
 {
     match error {
-        JoinError::Missing(unit, routine) => {
-            tell_import(err, b"Missing ", unit, routine_name(units, unit, routine))
-        }
-        JoinError::Twice(unit, routine) => {
-            tell_import(err, b"Twice ", unit, routine_name(units, unit, routine))
-        }
+        JoinError::Missing(unit, routine) => tell_import(err, b"Missing ", units, unit, routine),
+        JoinError::Twice(unit, routine) => tell_import(err, b"Twice ", units, unit, routine),
         JoinError::HeadDiffers(unit, routine) => {
-            tell_import(
-                err,
-                b"HeadDiffers ",
-                unit,
-                routine_name(units, unit, routine),
-            )
+            tell_import(err, b"HeadDiffers ", units, unit, routine)
         }
         JoinError::TooLarge(unit) => tell_number(
             err,
@@ -90,17 +87,28 @@ fn tell_join<E: Sink>(err: &mut E, units: &[Program], error: JoinError) -> Statu
     }
 }
 
+// Says on err why the call performs nothing, which read these modules: the status of that, or that
+// of a write fault where err fails.
+fn tell_error<E: Sink>(err: &mut E, units: &[Program], error: LinkError<'_>) -> Status
+    ensures { Reports (error_end (map program_of units.now) error.entry) (E.side err.old)
+        (E.side err.new) result.0 }
+{
+    match error {
+        LinkError::Refused(refusal) => refuse(err, PROGRAM, refusal),
+        LinkError::Unread(file, stop) => tell_file(err, PROGRAM, file.as_bytes(), stop),
+        LinkError::Unjoined(error) => tell_join(err, units, error),
+    }
+}
+
 // Says on err how the call ends, which read these modules: the status of that, or that of a write
 // fault where err fails.
-fn tell<E: Sink>(err: &mut E, units: &[Program], end: LinkEnd<'_>) -> Status
+fn tell<E: Sink>(err: &mut E, units: &[Program], end: Result<ProgramEnd, LinkError<'_>>) -> Status
     ensures { Reports (link_end (map program_of units.now) end.entry) (E.side err.old)
         (E.side err.new) result.0 }
 {
     match end {
-        LinkEnd::BadWord(word) => refuse(err, PROGRAM, Refusal::BadWord(word)),
-        LinkEnd::Unread(file, stop) => tell_file(err, PROGRAM, file.as_bytes(), stop),
-        LinkEnd::Unjoined(error) => tell_join(err, units, error),
-        LinkEnd::Performed(end) => tell_program(err, PROGRAM, exit::FAILED, end),
+        Ok(end) => tell_program(err, PROGRAM, exit::FAILED, end),
+        Err(error) => tell_error(err, units, error),
     }
 }
 

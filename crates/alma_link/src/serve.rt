@@ -12,13 +12,13 @@ ghost use Rattle.alma_link.specs.Ends.{link_end, task_of};
 ghost use Rattle.alma_link.specs.Link.{failure, join_plan, link_plan, task_plan, program, files_plan};
 ghost use Rattle.alma_plan.specs.Words.{greatest_files};
 
-use crate::end::LinkEnd;
+use crate::end::LinkError;
 use crate::words::{Task, request_of};
 use alma_driver_words::{DEFAULT_STEPS, split_word};
 use alma_io::{Files, Sink, Source};
 use alma_ir::Program;
 use alma_join::join;
-use alma_plan::{FileStop, ProgramEnd, Stop, run_program, store_program};
+use alma_plan::{FileStop, ProgramEnd, Refusal, run_program, store_program};
 use alma_unit::read_unit;
 use std::alloc::Global;
 
@@ -51,17 +51,15 @@ fn serve_units<'w, F: Files, I: Source, O: Sink>(
     files: &mut F,
     input: &mut I,
     out: &mut O,
-) -> LinkEnd<'w>
+) -> Result<ProgramEnd, LinkError<'w>>
     requires units { AreUnits (map program_of units.now) }
     ensures { Follows (sense program failure) program
         (join_plan (task_of task.entry) (map program_of units.now)) (F.side files.old)
         (F.side files.new) (I.side input.old) (I.side input.new) (O.side out.old) (O.side out.new)
         (link_end (map program_of units.now) result) }
 {
-    match join(alloc, units) {
-        Ok(joined) => { LinkEnd::Performed(perform_task(alloc, task, &joined, files, input, out)) }
-        Err(error) => LinkEnd::Unjoined(error),
-    }
+    let joined = join(alloc, units)?;
+    Ok(perform_task(alloc, task, &joined, files, input, out))
 }
 
 // Reads the modules of these names, each before the next is fetched, behind those that were, and
@@ -74,7 +72,7 @@ fn serve_files<'w, F: Files, I: Source, O: Sink>(
     files: &mut F,
     input: &mut I,
     out: &mut O,
-) -> LinkEnd<'w>
+) -> Result<ProgramEnd, LinkError<'w>>
     requires checked { AllByRecursion IsChecked (map program_of units.old.items) }
     requires some { 0 < length units.old.items + length names.now }
     requires few { length units.old.items + length names.now ≤ greatest_files }
@@ -89,12 +87,10 @@ fn serve_files<'w, F: Files, I: Source, O: Sink>(
     };
     match read_unit(alloc, files, name) {
         Ok(unit) => {
-            if units.push(unit).is_err() {
-                return LinkEnd::Performed(ProgramEnd::Stopped(Stop::Memory));
-            }
+            units.push(unit)?;
             serve_files(alloc, task, units, rest, files, input, out)
         }
-        Err(error) => LinkEnd::Unread(name, FileStop::from(error)),
+        Err(error) => Err(LinkError::Unread(name, FileStop::from(error))),
     }
 }
 
@@ -107,15 +103,13 @@ pub fn perform<'w, F: Files, I: Source, O: Sink>(
     files: &mut F,
     input: &mut I,
     out: &mut O,
-) -> LinkEnd<'w>
+) -> Result<ProgramEnd, LinkError<'w>>
     requires none { units.old.items ≡ [] }
     ensures { Follows (sense program failure) program (link_plan (texts words.now))
         (F.side files.old) (F.side files.new) (I.side input.old) (I.side input.new)
         (O.side out.old) (O.side out.new)
         (link_end (map program_of units.new.items) result) }
 {
-    match request_of(words) {
-        Ok(request) => { serve_files(alloc, request.task, units, request.files, files, input, out) }
-        Err(word) => LinkEnd::BadWord(word),
-    }
+    let request = request_of(words).map_err(Refusal::BadWord)?;
+    serve_files(alloc, request.task, units, request.files, files, input, out)
 }

@@ -7,7 +7,7 @@ pub returns-in-Ok : goal.returns-in-Ok
 returns-in-Ok g c =
     let e = c.in-Ok.ensures in
     course_read_source program success c.args.file.now (λ p. list_plan p c.args.steps) c.in-Ok.program _ _ _ _ _ _ _ _
-    (e.same, e.store_count) e.answer (c.list.ensures c.args.file.now (g.F.Files.side c.read_unit.new.files))
+    (e.same, e.store_count) e.answer (c.list.ensures (g.F.Files.side c.read_unit.new.files))
 
 pub returns-in-Err : goal.returns-in-Err
 returns-in-Err g c =

@@ -1,12 +1,13 @@
-use Rattle.std.proofs.Common.{◌∙◌, sym}
-use Rattle.alma_all.proofs.WordCourses.{course_bad}
+use Rattle.std.proofs.lemmas.Result.{err_from_is_err_and}
+use Rattle.alma_plan.specs.Refusals.{refusal_end}
+use Rattle.alma_all.specs.All.{program}
+use Rattle.alma_all.proofs.WordCourses.{course_end}
 use Rattle.alma_all.proofs.serve.perform.Goals as goal
 
-pub returns-in_default : goal.returns-in_default
-returns-in_default g c = rw c.in_default.ensures (course_bad 1 _ _ _)
+pub returns-in_err-file : goal.returns-in_err-file
+returns-in_err-file g c =
+    let p = err_from_is_err_and c.from_residual.result c.from_residual.ensures.1 in
+    rw (c.in_err-file.ensures.request, p.1, p.2) (course_end (refusal_end program c.in_err-file.field-0.0) _ _ _)
 
-pub returns-then-is_file_name : goal.returns-then-is_file_name
-returns-then-is_file_name g c = rw (c.in-Some.ensures, sym c.is_file_name.ensures ∙ c.if-is_file_name.true) c.list_with.ensures
-
-pub returns-else-is_file_name : goal.returns-else-is_file_name
-returns-else-is_file_name g c = rw (c.in-Some.ensures, sym c.is_file_name.ensures ∙ c.if-is_file_name.false) (course_bad 1 _ _ _)
+pub returns : goal.returns
+returns g c = rw c.in_ok-file.ensures.request c.list_file.ensures

@@ -1,5 +1,6 @@
 use Rattle.std.proofs.Common.{rules, [], ◌∷◌, ◌++◌, arith}
 use Rattle.std.proofs.lemmas.List.{length-map, map-append}
+use Rattle.std.proofs.lemmas.Result.{err_from_is_err_and}
 use Rattle.std.specs.Prelude.{map}
 use Rattle.std.specs.String.{string_bytes}
 use Rattle.alma_ir.specs.View.{program_of}
@@ -17,8 +18,8 @@ returns-in_default g t c = rw c.in_default.ensures (rw c.as_slice.ensures.value 
 
 pub serve_files-requires : goal.serve_files-requires
 serve_files-requires g t c κs within =
-    let more = rw (c.is_err.ensures.negation, c.if-is_err.false) at c.push.ensures.items in
-    let units = one_more c.args.units.now.items c.in-Ok.unit _ more c.requires.checked c.in-Ok.ensures.checked in
+    let more = c.in_ok-push-in-Ok.ensures.items in
+    let units = one_more c.args.units.now.items c.in-Ok.unit c.push.new.self.items more c.requires.checked c.in-Ok.ensures.checked in
     let names = same_count c.args.names.now (c.in-Some.name.now ∷ texts c.in-Some.rest.now) c.in-Some.ensures in
     let rest = length-map c.in-Some.rest.now (λ word. string_bytes word) in (
       omega (arith, names, rest),
@@ -37,15 +38,16 @@ serve_files-requires g t c κs within =
       ),
     )
 
-pub returns-then-is_err : goal.returns-then-is_err
-returns-then-is_err g t c =
-    rw c.in-Some.ensures (course_read_source program failure c.in-Some.name.now
+pub returns-in_err-push-in-Ok : goal.returns-in_err-push-in-Ok
+returns-in_err-push-in-Ok g t c =
+    let p = err_from_is_err_and c.from_residual.result c.from_residual.ensures.1 in
+    rw (c.in-Some.ensures, p.1, p.2) (course_read_source program failure c.in-Some.name.now
     (λ p. files_plan (task_of c.args.task) (map program_of c.args.units.now.items ++ p ∷ []) (texts c.in-Some.rest.now)) c.in-Ok.unit
     _ _ _ _ _ _ _ _ (c.in-Ok.ensures.same, c.in-Ok.ensures.store_count) c.in-Ok.ensures.answer (course_starved program _ _ _ _ _))
 
-pub returns-else-is_err : goal.returns-else-is_err
-returns-else-is_err g t c =
-    let more = rw (c.is_err.ensures.negation, c.if-is_err.false) at c.push.ensures.items in
+pub returns-in_ok-push-in-Ok : goal.returns-in_ok-push-in-Ok
+returns-in_ok-push-in-Ok g t c =
+    let more = c.in_ok-push-in-Ok.ensures.items in
     rw c.in-Some.ensures (course_read_source program failure c.in-Some.name.now
     (λ p. files_plan (task_of c.args.task) (map program_of c.args.units.now.items ++ p ∷ []) (texts c.in-Some.rest.now)) c.in-Ok.unit
     _ _ _ _ _ _ _ _ (c.in-Ok.ensures.same, c.in-Ok.ensures.store_count) c.in-Ok.ensures.answer
