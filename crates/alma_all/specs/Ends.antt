@@ -8,22 +8,22 @@ use Rattle.alma_plan.specs.Refusals.{refusal_end}
 use Rattle.alma_plan.specs.declared.end.ProgramEnd.{ProgramEnd}
 use Rattle.alma_plan.specs.declared.refusal.Refusal.TheVariants.{Stopped}
 use Rattle.alma_plan.specs.declared.stop.Stop.TheVariants.{Memory}
-use Rattle.alma_all.specs.declared.end.AllError.{AllError}
-use Rattle.alma_all.specs.declared.end.AllError.TheVariants.{Refused, Unread, ModuleReturn}
+use Rattle.alma_all.specs.declared.stop.AllStop.{AllStop}
+use Rattle.alma_all.specs.declared.stop.AllStop.TheVariants.{Refused, Unread, ModuleReturn}
 use Rattle.alma_all.specs.All.{program, module_return}
 
 -- how a call ends that lists nothing
-abbrev pub error_end : AllError → Ending
-error_end (Refused refusal) = refusal_end program refusal
-error_end (Unread file stop) = file_end program file.now stop
-error_end ModuleReturn = module_return
+abbrev pub stop_ending : AllStop → Ending
+stop_ending (Refused refusal) = refusal_end program refusal
+stop_ending (Unread file stop) = file_end program file.now stop
+stop_ending ModuleReturn = module_return
 
 -- how a call ends: as the program does that lists, or without one
-abbrev pub all_end : Result ProgramEnd AllError → Ending
+abbrev pub all_end : Result ProgramEnd AllStop → Ending
 all_end (Ok end) = program_end program success end
-all_end (Err error) = error_end error
+all_end (Err error) = stop_ending error
 
 -- why it lists nothing, where there is no program that lists
-abbrev pub listing_error : ListingError → AllError
+abbrev pub listing_error : ListingError → AllStop
 listing_error listing.ModuleReturn = ModuleReturn
 listing_error listing.Memory = Refused (Stopped Memory)

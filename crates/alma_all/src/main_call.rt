@@ -4,10 +4,10 @@ ghost use Rattle.alma_plan.specs.Course.{Answers, Reports};
 ghost use Rattle.alma_io.specs.Outside.{outside_of};
 ghost use Rattle.alma_driver_words.specs.Words.{texts};
 ghost use Rattle.alma_all.specs.All.{program, all_sense, all_plan};
-ghost use Rattle.alma_all.specs.Ends.{all_end, error_end};
+ghost use Rattle.alma_all.specs.Ends.{all_end, stop_ending};
 
-use crate::end::AllError;
 use crate::serve::perform;
+use crate::stop::AllStop;
 use alma_base::Status;
 use alma_driver_words::exit;
 use alma_io::{Files, Sink, Source};
@@ -19,23 +19,23 @@ const PROGRAM: &[u8] = b"alma_all";
 
 // Says on err why the call lists nothing: the status of that, or that of a write fault where err
 // fails.
-fn tell_error<E: Sink>(err: &mut E, error: AllError<'_>) -> Status
-    ensures { Reports (error_end error.entry) (E.side err.old) (E.side err.new) result.0 }
+fn tell_stop<E: Sink>(err: &mut E, error: AllStop<'_>) -> Status
+    ensures { Reports (stop_ending error.entry) (E.side err.old) (E.side err.new) result.0 }
 {
     match error {
-        AllError::Refused(refusal) => refuse(err, PROGRAM, refusal),
-        AllError::Unread(file, stop) => tell_file(err, PROGRAM, file.as_bytes(), stop),
-        AllError::ModuleReturn => tell_line(err, PROGRAM, exit::OWN_REFUSAL, b"ModuleReturn"),
+        AllStop::Refused(refusal) => refuse(err, PROGRAM, refusal),
+        AllStop::Unread(file, stop) => tell_file(err, PROGRAM, file.as_bytes(), stop),
+        AllStop::ModuleReturn => tell_line(err, PROGRAM, exit::OWN_REFUSAL, b"ModuleReturn"),
     }
 }
 
 // Says on err how the call ends: the status of that, or that of a write fault where err fails.
-fn tell<E: Sink>(err: &mut E, end: Result<ProgramEnd, AllError<'_>>) -> Status
+fn tell<E: Sink>(err: &mut E, end: Result<ProgramEnd, AllStop<'_>>) -> Status
     ensures { Reports (all_end end.entry) (E.side err.old) (E.side err.new) result.0 }
 {
     match end {
         Ok(end) => tell_program(err, PROGRAM, exit::SUCCEEDED, end),
-        Err(error) => tell_error(err, error),
+        Err(error) => tell_stop(err, error),
     }
 }
 

@@ -9,7 +9,7 @@ ghost use Rattle.alma_resolved.specs.Room.{HasRoom};
 ghost use Rattle.alma_all.specs.All.{program as program_name, all_sense, all_plan, file_plan, list_plan};
 ghost use Rattle.alma_all.specs.Ends.{all_end};
 
-use crate::end::AllError;
+use crate::stop::AllStop;
 use crate::words::request_of;
 use alma_io::{Files, Sink, Source};
 use alma_ir::Program;
@@ -25,7 +25,7 @@ fn list<'w, I: Source, O: Sink>(
     input: &mut I,
     steps: u64,
     out: &mut O,
-) -> Result<ProgramEnd, AllError<'w>>
+) -> Result<ProgramEnd, AllStop<'w>>
     requires checked { IsChecked (program_of program.now) }
     requires room { HasRoom (program_of program.now) }
     requires few { steps ≤ greatest_steps }
@@ -45,7 +45,7 @@ fn list_file<'w, F: Files, I: Source, O: Sink>(
     input: &mut I,
     steps: u64,
     out: &mut O,
-) -> Result<ProgramEnd, AllError<'w>>
+) -> Result<ProgramEnd, AllStop<'w>>
     requires few { steps ≤ greatest_steps }
     ensures { Follows all_sense program_name (file_plan file.now steps)
         (F.side files.old) (F.side files.new) (I.side input.old) (I.side input.new)
@@ -53,7 +53,7 @@ fn list_file<'w, F: Files, I: Source, O: Sink>(
 {
     match read_unit(alloc, files, file) {
         Ok(program) => list(alloc, &program, input, steps, out),
-        Err(error) => Err(AllError::Unread(file, FileStop::from(error))),
+        Err(error) => Err(AllStop::Unread(file, FileStop::from(error))),
     }
 }
 
@@ -65,7 +65,7 @@ pub fn perform<'w, F: Files, I: Source, O: Sink>(
     files: &mut F,
     input: &mut I,
     out: &mut O,
-) -> Result<ProgramEnd, AllError<'w>>
+) -> Result<ProgramEnd, AllStop<'w>>
     ensures { Follows all_sense program_name (all_plan (texts words.now)) (F.side files.old)
         (F.side files.new) (I.side input.old) (I.side input.new) (O.side out.old)
         (O.side out.new) (all_end result) }

@@ -11,8 +11,8 @@ use Rattle.alma_plan.specs.Refusals.{refusal_end}
 use Rattle.alma_plan.specs.declared.end.ProgramEnd.{ProgramEnd}
 use Rattle.alma_plan.specs.declared.refusal.Refusal.TheVariants.{Stopped}
 use Rattle.alma_plan.specs.declared.stop.Stop.TheVariants.{Memory}
-use Rattle.alma_link.specs.declared.end.LinkError.{LinkError}
-use Rattle.alma_link.specs.declared.end.LinkError.TheVariants.{Refused, Unread, Unjoined}
+use Rattle.alma_link.specs.declared.stop.LinkStop.{LinkStop}
+use Rattle.alma_link.specs.declared.stop.LinkStop.TheVariants.{Refused, Unread, Unjoined}
 use Rattle.alma_link.specs.declared.words.Task as word_task
 use Rattle.alma_link.specs.declared.words.Task.TheVariants as word
 use Rattle.alma_link.specs.declared.words.Request as words
@@ -37,16 +37,16 @@ join_end units (join.TooLarge unit) = join_refusal units (fault.TooLarge unit)
 join_end units join.Memory = no_memory program
 
 -- why a call performs nothing for which memory ran out
-abbrev pub starved : LinkError
+abbrev pub starved : LinkStop
 starved = Refused (Stopped Memory)
 
 -- how a call ends that performs nothing, and read these modules
-abbrev pub error_end : List Program → LinkError → Ending
-error_end units (Refused refusal) = refusal_end program refusal
-error_end units (Unread file stop) = file_end program file.now stop
-error_end units (Unjoined error) = join_end units error
+abbrev pub stop_ending : List Program → LinkStop → Ending
+stop_ending units (Refused refusal) = refusal_end program refusal
+stop_ending units (Unread file stop) = file_end program file.now stop
+stop_ending units (Unjoined error) = join_end units error
 
 -- how a call ends that read these modules: as their joined program does, or without one
-abbrev pub link_end : List Program → Result ProgramEnd LinkError → Ending
+abbrev pub link_end : List Program → Result ProgramEnd LinkStop → Ending
 link_end units (Ok end) = program_end program failure end
-link_end units (Err error) = error_end units error
+link_end units (Err error) = stop_ending units error

@@ -2,10 +2,10 @@
 //! is stored.
 #![tactic(auto)]
 
-mod end;
 pub mod laws;
 mod main_call;
 mod serve;
+mod stop;
 mod words;
 
 pub use alma_join::{JoinError, join};

@@ -9,11 +9,11 @@ ghost use Rattle.alma_plan.specs.Plan.{tells};
 ghost use Rattle.alma_driver_words.specs.Exit as exit;
 ghost use Rattle.alma_driver_words.specs.Words.{texts};
 ghost use Rattle.alma_plan.specs.Programs.{sense};
-ghost use Rattle.alma_link.specs.Ends.{error_end, join_end, link_end};
+ghost use Rattle.alma_link.specs.Ends.{stop_ending, join_end, link_end};
 ghost use Rattle.alma_link.specs.Link.{failure, import_text, link_plan, program, unit_at};
 
-use crate::end::LinkError;
 use crate::serve::perform;
+use crate::stop::LinkStop;
 use alma_base::Status;
 use alma_driver_words::exit;
 use alma_io::{Files, Sink, Source};
@@ -89,26 +89,26 @@ fn tell_join<E: Sink>(err: &mut E, units: &[Program], error: JoinError) -> Statu
 
 // Says on err why the call performs nothing, which read these modules: the status of that, or that
 // of a write fault where err fails.
-fn tell_error<E: Sink>(err: &mut E, units: &[Program], error: LinkError<'_>) -> Status
-    ensures { Reports (error_end (map program_of units.now) error.entry) (E.side err.old)
+fn tell_stop<E: Sink>(err: &mut E, units: &[Program], error: LinkStop<'_>) -> Status
+    ensures { Reports (stop_ending (map program_of units.now) error.entry) (E.side err.old)
         (E.side err.new) result.0 }
 {
     match error {
-        LinkError::Refused(refusal) => refuse(err, PROGRAM, refusal),
-        LinkError::Unread(file, stop) => tell_file(err, PROGRAM, file.as_bytes(), stop),
-        LinkError::Unjoined(error) => tell_join(err, units, error),
+        LinkStop::Refused(refusal) => refuse(err, PROGRAM, refusal),
+        LinkStop::Unread(file, stop) => tell_file(err, PROGRAM, file.as_bytes(), stop),
+        LinkStop::Unjoined(error) => tell_join(err, units, error),
     }
 }
 
 // Says on err how the call ends, which read these modules: the status of that, or that of a write
 // fault where err fails.
-fn tell<E: Sink>(err: &mut E, units: &[Program], end: Result<ProgramEnd, LinkError<'_>>) -> Status
+fn tell<E: Sink>(err: &mut E, units: &[Program], end: Result<ProgramEnd, LinkStop<'_>>) -> Status
     ensures { Reports (link_end (map program_of units.now) end.entry) (E.side err.old)
         (E.side err.new) result.0 }
 {
     match end {
         Ok(end) => tell_program(err, PROGRAM, exit::FAILED, end),
-        Err(error) => tell_error(err, units, error),
+        Err(error) => tell_stop(err, units, error),
     }
 }
 

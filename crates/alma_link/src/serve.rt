@@ -12,7 +12,7 @@ ghost use Rattle.alma_link.specs.Ends.{link_end, task_of};
 ghost use Rattle.alma_link.specs.Link.{failure, join_plan, link_plan, task_plan, program, files_plan};
 ghost use Rattle.alma_plan.specs.Words.{greatest_files};
 
-use crate::end::LinkError;
+use crate::stop::LinkStop;
 use crate::words::{Task, request_of};
 use alma_driver_words::{DEFAULT_STEPS, split_word};
 use alma_io::{Files, Sink, Source};
@@ -51,7 +51,7 @@ fn serve_units<'w, F: Files, I: Source, O: Sink>(
     files: &mut F,
     input: &mut I,
     out: &mut O,
-) -> Result<ProgramEnd, LinkError<'w>>
+) -> Result<ProgramEnd, LinkStop<'w>>
     requires units { AreUnits (map program_of units.now) }
     ensures { Follows (sense program failure) program
         (join_plan (task_of task.entry) (map program_of units.now)) (F.side files.old)
@@ -72,7 +72,7 @@ fn serve_files<'w, F: Files, I: Source, O: Sink>(
     files: &mut F,
     input: &mut I,
     out: &mut O,
-) -> Result<ProgramEnd, LinkError<'w>>
+) -> Result<ProgramEnd, LinkStop<'w>>
     requires checked { AllByRecursion IsChecked (map program_of units.old.items) }
     requires some { 0 < length units.old.items + length names.now }
     requires few { length units.old.items + length names.now ≤ greatest_files }
@@ -90,7 +90,7 @@ fn serve_files<'w, F: Files, I: Source, O: Sink>(
             units.push(unit)?;
             serve_files(alloc, task, units, rest, files, input, out)
         }
-        Err(error) => Err(LinkError::Unread(name, FileStop::from(error))),
+        Err(error) => Err(LinkStop::Unread(name, FileStop::from(error))),
     }
 }
 
@@ -103,7 +103,7 @@ pub fn perform<'w, F: Files, I: Source, O: Sink>(
     files: &mut F,
     input: &mut I,
     out: &mut O,
-) -> Result<ProgramEnd, LinkError<'w>>
+) -> Result<ProgramEnd, LinkStop<'w>>
     requires none { units.old.items ≡ [] }
     ensures { Follows (sense program failure) program (link_plan (texts words.now))
         (F.side files.old) (F.side files.new) (I.side input.old) (I.side input.new)

@@ -7,7 +7,7 @@ use std::alloc::AllocFailed;
 
 /// Why a call neither runs a program nor stores one, but for what becomes of its text on err.
 #[derive(Clone, Copy)]
-pub enum LinkError<'w> {
+pub enum LinkStop<'w> {
     /// The call is refused as every program may refuse.
     Refused(Refusal),
     /// The file of this name gives no module.
@@ -16,32 +16,32 @@ pub enum LinkError<'w> {
     Unjoined(JoinError),
 }
 
-impl<'w> From<Refusal> for LinkError<'w> {
-    ghost use Rattle.alma_link.specs.declared.end.LinkError.TheVariants.{Refused};
+impl<'w> From<Refusal> for LinkStop<'w> {
+    ghost use Rattle.alma_link.specs.declared.stop.LinkStop.TheVariants.{Refused};
 
     ghost from_gives = { λ refusal error. error ≡ Refused refusal };
 
     fn from(refusal: Refusal) -> Self {
-        LinkError::Refused(refusal)
+        LinkStop::Refused(refusal)
     }
 }
 
-impl<'w> From<JoinError> for LinkError<'w> {
-    ghost use Rattle.alma_link.specs.declared.end.LinkError.TheVariants.{Unjoined};
+impl<'w> From<JoinError> for LinkStop<'w> {
+    ghost use Rattle.alma_link.specs.declared.stop.LinkStop.TheVariants.{Unjoined};
 
     ghost from_gives = { λ fault error. error ≡ Unjoined fault };
 
     fn from(fault: JoinError) -> Self {
-        LinkError::Unjoined(fault)
+        LinkStop::Unjoined(fault)
     }
 }
 
-impl<'w, T: Drop> From<AllocFailed<T>> for LinkError<'w> {
+impl<'w, T: Drop> From<AllocFailed<T>> for LinkStop<'w> {
     ghost use Rattle.alma_link.specs.Ends.{starved};
 
     ghost from_gives = { λ _ error. error ≡ starved };
 
     fn from(_: AllocFailed<T>) -> Self {
-        LinkError::Refused(Refusal::from(Stop::Memory))
+        LinkStop::Refused(Refusal::from(Stop::Memory))
     }
 }

@@ -7,7 +7,7 @@ use alma_plan::{FileStop, Refusal, Stop};
 
 /// Why a call lists nothing, but for what becomes of its text on err.
 #[derive(Clone, Copy)]
-pub enum AllError<'w> {
+pub enum AllStop<'w> {
     /// The call is refused as every program may refuse.
     Refused(Refusal),
     /// The file of this name gives no program.
@@ -16,23 +16,23 @@ pub enum AllError<'w> {
     ModuleReturn,
 }
 
-impl<'w> From<Refusal> for AllError<'w> {
-    ghost use Rattle.alma_all.specs.declared.end.AllError.TheVariants.{Refused};
+impl<'w> From<Refusal> for AllStop<'w> {
+    ghost use Rattle.alma_all.specs.declared.stop.AllStop.TheVariants.{Refused};
 
     ghost from_gives = { λ refusal error. error ≡ Refused refusal };
 
     fn from(refusal: Refusal) -> Self {
-        AllError::Refused(refusal)
+        AllStop::Refused(refusal)
     }
 }
 
-impl<'w> From<ListingError> for AllError<'w> {
+impl<'w> From<ListingError> for AllStop<'w> {
     ghost from_gives = { λ fault error. error ≡ listing_error fault };
 
     fn from(fault: ListingError) -> Self {
         match fault {
-            ListingError::ModuleReturn => AllError::ModuleReturn,
-            ListingError::Memory => AllError::Refused(Refusal::from(Stop::Memory)),
+            ListingError::ModuleReturn => AllStop::ModuleReturn,
+            ListingError::Memory => AllStop::Refused(Refusal::from(Stop::Memory)),
         }
     }
 }
