@@ -15,17 +15,23 @@ use Rattle.alma_run_laws.specs.Shown.{shown_end}
 use Rattle.alma_run_laws.specs.Stored.{SpellsCodeOf}
 use Rattle.alma_run_laws.proofs.Meant.{code_shows}
 use Rattle.alma_run_laws.proofs.Spelled.{spelled_sound}
-use Rattle.alma_driver_words.specs.Words.{Check, Compile, Exec, Listing, Trace, file_of}
+use Rattle.alma_driver_words.specs.Words.{Request, Check, Compile, Exec, Listing, Sample, Trace, Asks, IsBadWord, IsRequest, file_of}
+use Rattle.alma_driver_words.proofs.BadWords.{one_bad_word}
+use Rattle.alma_driver_words.proofs.WordLemmas.{one_request}
+use Rattle.alma_plan.specs.declared.refusal.Refusal.TheVariants as refusal
+use Rattle.alma_driver_outcome.specs.Words.{read_by}
+use Rattle.alma_driver_outcome.specs.declared.end.End.TheVariants.{Refused}
 use Rattle.alma_plan.specs.Undisturbed.{ShowsDue}
 use Rattle.alma_source.specs.Refusal.{IsProgramOf}
 use Rattle.alma_source.proofs.RefusalLemmas.{only_fault}
 use Rattle.alma_driver_outcome.specs.Commands.{AsksOf, GivesInput, ShowsRefusal, ShowsSize, CheckEnds, CompileEnds, TraceEnds, ProgramEnds}
-use Rattle.alma_driver_outcome.specs.Commands.{ListEnds, ObjectEnds, ShowsRun, ShowsTrace, input_by, accepts, lists, runs, stores, traces}
+use Rattle.alma_driver_outcome.specs.Commands.{ListEnds, ObjectEnds, ShowsRun, ShowsSample, ShowsTrace, input_by, accepts, lists, runs, stores, traces}
 use Rattle.alma_driver_outcome.specs.Commands as shown
 use Rattle.alma_driver_outcome.specs.Headline.{ShowsEnd}
 use Rattle.alma_driver_outcome.specs.Outcome.{Due, silent, code_due, InputOutcome, unread, taken, past_input, ProgramOutcome, ran}
 use Rattle.alma_driver_outcome.specs.Outcome.{too_much_code, IsSourceEnd, refused, SourceOutcome, stopped, compiled, CheckOutcome}
-use Rattle.alma_driver_outcome.specs.Outcome.{ListOutcome, listed, no_object}
+use Rattle.alma_driver_outcome.specs.Outcome.{ListOutcome, listed, no_object, Outcome, bad_word, asks, Lacks, SampleOutcome, summed}
+use Rattle.alma_driver_outcome.specs.Outcome.{RequestOutcome, absent, past_limit, fetched, unfetched}
 use Rattle.alma_driver_outcome.specs.Outcome.{CompileOutcome, made, past_size, ExecOutcome, opened, unopened, executed, unsound}
 use Rattle.alma_driver_outcome.specs.Parts.{shown_in}
 use Rattle.alma_driver_outcome.specs.Scope.{Causes}
@@ -34,40 +40,40 @@ use Rattle.alma_driver_outcome.specs.declared.end.End.{End}
 use Rattle.alma_driver_outcome.proofs.HeadlineLemmas.{program_ends}
 use Rattle.alma_driver_outcome.proofs.RunLemmas.{told_is}
 use Rattle.alma_driver_outcome.proofs.StoredLemmas.{spells_stored}
-use Rattle.alma_driver_outcome.proofs.WholeCalls.{whole_call}
+use Rattle.alma_driver_outcome.proofs.WholeCalls.{Came, whole_call, whole_words}
 
 module _ (words : List (List ℕ)) (before after : Outside) (status : ℕ) where
   -- what is due came
-  abbrev Came : Due → Type 0
-  Came due = ShowsDue before after status (shown_in (file_of words) due)
+  abbrev CameDue : Due → Type 0
+  CameDue due = ShowsDue before after status (shown_in (file_of words) due)
 
   -- a source that is refused
-  refusal_of : (source : List ℕ) (due : Due) (end : End) → due ≡ silent end → Came due → IsSourceEnd source end
+  refusal_of : (source : List ℕ) (due : Due) (end : End) → due ≡ silent end → CameDue due → IsSourceEnd source end
       → ShowsRefusal words before after status source
   refusal_of source due end d h (refused fault offset r e) = record {
     fault = fault;
     offset = offset;
     only = only_fault source fault offset r;
-    shows = subst Came (d ∙ ap silent e) h;
+    shows = subst CameDue (d ∙ ap silent e) h;
   }
 
   -- a source that is checked
-  check_of : (source : List ℕ) (due : Due) → Came due → SourceOutcome source CheckOutcome due → CheckEnds words before after status source
+  check_of : (source : List ℕ) (due : Due) → CameDue due → SourceOutcome source CheckOutcome due → CheckEnds words before after status source
   check_of source due h (stopped end r e) = shown.CheckEnds.refuses (refusal_of source due end e h r)
-  check_of source due h (compiled p is e) = accepts p is (subst Came e h)
+  check_of source due h (compiled p is e) = accepts p is (subst CameDue e h)
 
   -- a source that is compiled
-  compile_of : (source object : List ℕ) (due : Due) → Came due → SourceOutcome source (λ p. CompileOutcome p object) due
+  compile_of : (source object : List ℕ) (due : Due) → CameDue due → SourceOutcome source (λ p. CompileOutcome p object) due
       → CompileEnds words before after status source object
   compile_of source object due h (stopped end r e) = shown.CompileEnds.refuses (refusal_of source due end e h r)
   compile_of source object due h (compiled p is (past_size size e)) =
-      shown.CompileEnds.too_large (record { program = p; is = is; large = size; shows = subst Came e h })
+      shown.CompileEnds.too_large (record { program = p; is = is; large = size; shows = subst CameDue e h })
   compile_of source object due h (compiled p is (made code bytes size is_code is_object fits e)) =
       let stored : StoredFile = record { name = object; bytes = bytes } in
       let spells = spells_stored p object due stored (made code bytes size is_code is_object fits e) (ap (λ (d : Due). d.stored) e) in
-      stores p bytes is size spells (subst Came e h)
+      stores p bytes is size spells (subst CameDue e h)
 
-  module _ (p : Program) (code : PlainCode) (is_code : IsCodeFor p code) (steps : ℕ) (watch : List (List ℕ)) (due : Due) (h : Came due) where
+  module _ (p : Program) (code : PlainCode) (is_code : IsCodeFor p code) (steps : ℕ) (watch : List (List ℕ)) (due : Due) (h : CameDue due) where
     -- a trace of a run on this input
     trace_on : (input : List ℕ) → length input ≤ input_limit → due ≡ code_due code input steps (Traces watch)
         → ShowsTrace words before after status p input steps watch
@@ -80,7 +86,7 @@ module _ (words : List (List ℕ)) (before after : Outside) (status : ℕ) where
           end = end;
           meant = code_shows code p input steps is_code.implements short;
           shows = subst (λ (x : End). ShowsEnd words before after status x (trace_text code input watch steps))
-              (told_is s.mode (line_in code s) None) (subst Came e h);
+              (told_is s.mode (line_in code s) None) (subst CameDue e h);
         }
 
     -- the same by whether the program reads
@@ -101,12 +107,12 @@ module _ (words : List (List ℕ)) (before after : Outside) (status : ℕ) where
 
   -- a source that is traced
   trace_of : (source input : List ℕ) (steps : ℕ) (watch : List (List ℕ)) (due : Due)
-      → ((p : Program) → IsProgramOf source p → GivesInput before p input) → Came due
+      → ((p : Program) → IsProgramOf source p → GivesInput before p input) → CameDue due
       → SourceOutcome source (λ p. ProgramOutcome before.input.left p steps (Traces watch)) due
       → TraceEnds words before after status source input steps watch
   trace_of source input steps watch due given h (stopped end r e) = shown.TraceEnds.refuses (refusal_of source due end e h r)
   trace_of source input steps watch due given h (compiled p is (too_much_code size e)) =
-      shown.TraceEnds.too_large (record { program = p; is = is; large = size; shows = subst Came e h })
+      shown.TraceEnds.too_large (record { program = p; is = is; large = size; shows = subst CameDue e h })
   trace_of source input steps watch due given h (compiled p is (ran code size is_code o)) =
       traces p is size
       (subst (λ (r : Bool). ShowsTrace words before after status p (input_by r input) steps watch) is_code.reads
@@ -114,7 +120,7 @@ module _ (words : List (List ℕ)) (before after : Outside) (status : ℕ) where
 
   -- an object of a program that is run
   exec_of : (p : Program) (bytes input : List ℕ) (steps : ℕ) (stats : Bool) (due : Due) → SpellsCodeOf p bytes
-      → GivesInput before p input → Came due → ExecOutcome before.input.left bytes steps stats due
+      → GivesInput before p input → CameDue due → ExecOutcome before.input.left bytes steps stats due
       → ProgramEnds words before after status p input steps stats
   exec_of p bytes input steps stats due is given h (opened clean (executed c o)) =
       program_ends words p input steps stats before after status (object_code bytes) due (λ r. given.left (sym is.code.reads ∙ r))
@@ -123,30 +129,30 @@ module _ (words : List (List ℕ)) (before after : Outside) (status : ℕ) where
   exec_of p bytes input steps stats due is given h (unopened fault c e) = cc (is.clean, c)
 
   -- bytes that are listed
-  list_of : (bytes : List ℕ) (due : Due) → Came due → ListOutcome bytes due → ListEnds words before after status bytes
-  list_of bytes due h (listed clean is e) = lists clean is (subst Came e h)
-  list_of bytes due h (no_object fault is e) = shown.ListEnds.no_object fault is (subst Came e h)
+  list_of : (bytes : List ℕ) (due : Due) → CameDue due → ListOutcome bytes due → ListEnds words before after status bytes
+  list_of bytes due h (listed clean is e) = lists clean is (subst CameDue e h)
+  list_of bytes due h (no_object fault is e) = shown.ListEnds.no_object fault is (subst CameDue e h)
 
   -- bytes that are run
-  module _ (bytes input : List ℕ) (steps : ℕ) (stats : Bool) (due : Due) (h : Came due) where
+  module _ (bytes input : List ℕ) (steps : ℕ) (stats : Bool) (due : Due) (h : CameDue due) where
     abbrev ran_on : List ℕ → Type 0
     ran_on i = ShowsRun words before after status (object_code bytes) i steps stats
 
     run_by : (code_reads (object_code bytes) ≡ true → before.input.left ≡ Some input) → length input ≤ input_limit
         → InputOutcome before.input.left (object_code bytes) steps (Prints stats) due
         → ran_on (input_by (code_reads (object_code bytes)) input)
-    run_by told short (unread quiet e) = subst (λ (r : Bool). ran_on (input_by r input)) (sym quiet) (subst Came e h)
+    run_by told short (unread quiet e) = subst (λ (r : Bool). ran_on (input_by r input)) (sym quiet) (subst CameDue e h)
     run_by told short (taken other reads l few e) =
         let same : input ≡ other = subst (λ (o : Option (List ℕ)). MayBeLeft o other) (told reads) l in
-        subst (λ (r : Bool). ran_on (input_by r input)) (sym reads) (subst ran_on (sym same) (subst Came e h))
+        subst (λ (r : Bool). ran_on (input_by r input)) (sym reads) (subst ran_on (sym same) (subst CameDue e h))
     run_by told short (past_input reads more e) =
         let past : MayHaveMore (Some input) input_limit = subst (λ (o : Option (List ℕ)). MayHaveMore o input_limit) (told reads) more in
         absurd (omega (arith, short, past))
 
     object_of : (code_reads (object_code bytes) ≡ true → before.input.left ≡ Some input) → length input ≤ input_limit
         → ExecOutcome before.input.left bytes steps stats due → ObjectEnds words before after status bytes input steps stats
-    object_of told short (unopened fault is e) = shown.ObjectEnds.no_object fault is (subst Came e h)
-    object_of told short (opened clean (unsound fault is e)) = shown.ObjectEnds.unsound fault clean is (subst Came e h)
+    object_of told short (unopened fault is e) = shown.ObjectEnds.no_object fault is (subst CameDue e h)
+    object_of told short (opened clean (unsound fault is e)) = shown.ObjectEnds.unsound fault clean is (subst CameDue e h)
     object_of told short (opened clean (executed sound o)) = runs clean sound (run_by told short o)
 
   -- ---- where nothing failed
@@ -187,3 +193,48 @@ module _ (words : List (List ℕ)) (before after : Outside) (status : ℕ) where
   object_ends object bytes input steps stats a told short c u =
       let w = whole_call words (Exec object steps stats) bytes before after status a c u in
       object_of bytes input steps stats w.due w.shows told short w.outcome
+
+  -- ---- words that name no file to read
+
+  -- a bad word is told
+  pub bad_word_told : (k : ℕ) → IsBadWord words k → Causes words before after status → IsUndisturbed before after status
+      → ShowsEnd words before after status (Refused (refusal.BadWord k)) []
+  bad_word_told k bad c u = by w.outcome
+    where
+      w : Came words before after status
+      w = whole_words words before after status (λ l. bad.none (l.0, l.2)) c u
+
+      by : Outcome words before.files.told before.input.left w.due → ShowsEnd words before after status (Refused (refusal.BadWord k)) []
+      by (bad_word j other e) =
+          let same : j ≡ k = one_bad_word IsRequest words j k other bad in
+          subst CameDue (e ∙ ap (λ (n : ℕ). silent (Refused (refusal.BadWord n))) same) w.shows
+      by (asks r h o) = absurd (bad.none (r, h))
+
+  -- a sample is summed up
+  pub sample_told : (lines : ℕ) → Asks words (Sample lines) → Causes words before after status → IsUndisturbed before after status
+      → ShowsSample words before after status lines
+  sample_told lines a c u = by_words w.outcome
+    where
+      reads_none : Lacks words before.files.told → ⊥
+      reads_none l =
+          let same : l.0 ≡ Sample lines = one_request words l.0 (Sample lines) l.2 a in
+          cc (sym (ap read_by same) ∙ l.3)
+
+      w : Came words before after status
+      w = whole_words words before after status reads_none c u
+
+      by_sample : SampleOutcome lines w.due → ShowsSample words before after status lines
+      by_sample (summed printed status_of_run sampled e) =
+          record { printed = printed; status_of_run = status_of_run; sampled = sampled; shows = subst CameDue e w.shows }
+
+      by_request : RequestOutcome before.files.told before.input.left (Sample lines) w.due → ShowsSample words before after status lines
+      by_request (absent n is gone e) = cc is
+      by_request (past_limit n is past e) = cc is
+      by_request (fetched n bytes is may few o) = cc is
+      by_request (unfetched is o) = by_sample o
+
+      by_words : Outcome words before.files.told before.input.left w.due → ShowsSample words before after status lines
+      by_words (bad_word k bad e) = absurd (bad.none (Sample lines, a))
+      by_words (asks r h o) =
+          by_request
+          (subst (λ (q : Request). RequestOutcome before.files.told before.input.left q w.due) (one_request words r (Sample lines) h a) o)

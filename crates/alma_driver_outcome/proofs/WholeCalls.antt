@@ -1,4 +1,4 @@
--- Calls whose request reads a file that is told, and short: all that is due from its bytes came where nothing failed.
+-- Calls in which nothing failed: all came that is due from their words, and from the bytes of the file that they read.
 use Rattle.std.proofs.Common.{◌≡◌, ◌≤◌, ◌∙◌, ℕ, List, length, ap, sym, subst, arith}
 use Rattle.std.specs.Prelude.{Option, None, Some}
 use Rattle.alma_io.specs.Files.{Told, Has, MayHave, MayPass}
@@ -19,6 +19,27 @@ use Rattle.alma_driver_outcome.specs.Outcome.{asks, Lacks}
 use Rattle.alma_driver_outcome.specs.Parts.{MayCome, shown_in}
 use Rattle.alma_driver_outcome.specs.Scope.{Causes, IsOutcome, scope_of}
 use Rattle.alma_driver_outcome.specs.declared.end.End.{End}
+
+-- all that is due from the words came
+pub record Came (words : List (List ℕ)) (before after : Outside) (status : ℕ) : Type 0 where
+  pub due : Due
+  pub outcome : Outcome words before.files.told before.input.left due
+  pub shows : ShowsDue before after status (shown_in (file_of words) due)
+  pub takes : Takes due.reading before.input after.input
+
+-- so it did where nothing failed, and no file is missing
+pub whole_words : (words : List (List ℕ)) (before after : Outside) (status : ℕ) → (Lacks words before.files.told → ⊥)
+    → Causes words before after status → IsUndisturbed before after status → Came words before after status
+whole_words words before after status there c u =
+    by (call_is_whole program (scope_of words before) before after status c u there)
+  where
+    by : IsWhole (MayCome (file_of words) (IsOutcome words before)) before after status → Came words before after status
+    by w = record {
+      due = w.2.0;
+      outcome = w.2.1;
+      shows = subst (ShowsDue before after status) w.2.3 (record { status_is = w.3; out = w.4; err = w.5; files = w.6 });
+      takes = subst (λ (x : Reading). Takes x before.input after.input) w.2.2 w.7;
+    }
 
 -- all that is due from the bytes of a request's file came
 pub record CameWhole (words : List (List ℕ)) (request : Request) (bytes : List ℕ) (before after : Outside) (status : ℕ) : Type 0 where
@@ -60,18 +81,11 @@ module _ (words : List (List ℕ)) (r : Request) (bytes : List ℕ) (before afte
       let one : a.name ≡ l.1 = cc name in
       cc (sym a.told ∙ ap before.files.told one ∙ l.4)
 
-  -- what is due by what may come
-  came : IsWhole (MayCome (file_of words) (IsOutcome words before)) before after status → CameWhole words r bytes before after status
-  came w = record {
-    due = w.2.0;
-    outcome = words_outcome w.2.0 w.2.1;
-    shows = subst (ShowsDue before after status) w.2.3 (record { status_is = w.3; out = w.4; err = w.5; files = w.6 });
-    takes = subst (λ (x : Reading). Takes x before.input after.input) w.2.2 w.7;
-  }
-
   -- all that is due from a call came where nothing failed
   pub whole_call : Causes words before after status → IsUndisturbed before after status → CameWhole words r bytes before after status
-  whole_call c u = came (call_is_whole program (scope_of words before) before after status c u not_lacking)
+  whole_call c u =
+      let w = whole_words words before after status not_lacking c u in
+      record { due = w.due; outcome = words_outcome w.due w.outcome; shows = w.shows; takes = w.takes }
 
 -- what is due by its end and its bytes, where nothing is stored
 pub shows_end : (words : List (List ℕ)) (before after : Outside) (status : ℕ) (due : Due) (end : End) → due.end ≡ end → due.stored ≡ None

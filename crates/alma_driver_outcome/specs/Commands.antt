@@ -1,4 +1,4 @@
--- What calls come to that check, compile or trace a source, or list or run an object.
+-- What calls come to that check, compile or trace a source, list or run an object, or run a sample.
 use Rattle.std.specs.Prelude.{◌≡◌, ◌<◌, ◌≤◌, suc, Bool, true, false, List, ℕ, [], length, None, Some}
 use Rattle.alma_base.specs.Limits.{size_limit, input_limit}
 use Rattle.alma_io.specs.Files.{Has}
@@ -15,6 +15,7 @@ use Rattle.alma_code.specs.declared.step.VerifyFault.{VerifyFault}
 use Rattle.alma_lower.specs.CodeFor.{IsCodeFor}
 use Rattle.alma_lower_implements.specs.Implements.{printed_by, state_after}
 use Rattle.alma_lower_sound.specs.Reads.{program_reads}
+use Rattle.alma_driver_words.specs.Sample.{sample_text}
 use Rattle.alma_driver_words.specs.Words.{Request, Asks, file_of}
 use Rattle.alma_object.specs.Object.{IsObject}
 use Rattle.alma_object.specs.Walk.{object_fault}
@@ -27,8 +28,8 @@ use Rattle.alma_source.specs.Refusal.{IsOnlyFault, IsProgramOf, place_of}
 use Rattle.alma_source.specs.declared.fault.SourceFault.{SourceFault}
 use Rattle.alma_verify.specs.Bytes.{object_code}
 use Rattle.alma_driver_outcome.specs.Words.{limit_of, IsReadBy}
-use Rattle.alma_driver_outcome.specs.Outcome.{code_end, told_end}
-use Rattle.alma_driver_outcome.specs.Ends.{ending_in}
+use Rattle.alma_driver_outcome.specs.Outcome.{IsSampled, code_end, told_end}
+use Rattle.alma_driver_outcome.specs.Ends.{ending_in, sample_line}
 use Rattle.alma_driver_outcome.specs.Headline.{ShowsEnd, ShowsResult, ShowsFront}
 use Rattle.alma_driver_outcome.specs.declared.end.End.TheVariants.{BadSource, Refused, Succeeded, TooMuchCode}
 
@@ -129,3 +130,11 @@ module _ (words : List (List ℕ)) (before after : Outside) (status : ℕ) where
         → ShowsEnd words before after status (Refused (refusal.BadCode fault)) [] → ObjectEnds bytes input steps stats
     runs : object_fault bytes ≡ None → code_fault (object_code bytes) ≡ None
         → ShowsRun (object_code bytes) (input_by (code_reads (object_code bytes)) input) steps stats → ObjectEnds bytes input steps stats
+
+  -- What a call shows that asks for a sample of so many lines: the line that sums up the run of its source on an empty input.
+  pub record ShowsSample (lines : ℕ) : Type 0 where
+    pub printed : ℕ
+    pub status_of_run : ℕ
+    pub sampled : IsSampled (sample_text lines) printed status_of_run
+    pub shows : ShowsEnd words before after status (Succeeded None)
+        (sample_line lines (length (sample_text lines)) printed status_of_run)

@@ -1,6 +1,6 @@
 //! Laws of the definitions that the contracts cite: functions without work, whose contracts are the
 //! laws.
-ghost use Rattle.std.specs.Prelude.{◌≡◌, ◌≤◌, ◌+◌, ◌*◌, Bool, true, List, ℕ, length, Option, Some, map};
+ghost use Rattle.std.specs.Prelude.{◌≡◌, ◌≤◌, ◌+◌, ◌*◌, Bool, true, List, ℕ, [], length, Option, Some, map};
 ghost use Rattle.alma_base.specs.Limits.{input_limit, size_limit};
 ghost use Rattle.alma_code.specs.Reads.{code_reads};
 ghost use Rattle.alma_verify.specs.Bytes.{object_code};
@@ -8,9 +8,11 @@ ghost use Rattle.alma_source.specs.Refusal.{IsProgramOf};
 ghost use Rattle.alma_io.specs.Outside.{StoredFile, IsUndisturbed, Outside};
 ghost use Rattle.alma_driver_outcome.specs.Outcome.{Due, ProgramOutcome, CompileOutcome, SourceOutcome, Meant, TraceMeant, ListOutcome, ExecOutcome};
 ghost use Rattle.alma_driver_outcome.specs.Scope.{Causes};
-ghost use Rattle.alma_driver_outcome.specs.Commands.{AsksOf, CheckEnds, CompileEnds, GivesInput, ListEnds, ObjectEnds, ProgramEnds, TraceEnds};
-ghost use Rattle.alma_driver_words.specs.Words.{Check, Compile, Exec, Listing, Trace};
-ghost use Rattle.alma_driver_outcome.specs.Headline.{AsksToRun, IsInputLeft, RunEnds, ShowsResult};
+ghost use Rattle.alma_driver_outcome.specs.Commands.{AsksOf, CheckEnds, CompileEnds, GivesInput, ListEnds, ObjectEnds, ProgramEnds, ShowsSample, TraceEnds};
+ghost use Rattle.alma_driver_words.specs.Words.{Asks, Check, Compile, Exec, IsBadWord, Listing, Sample, Trace};
+ghost use Rattle.alma_driver_outcome.specs.declared.end.End.TheVariants.{Refused};
+ghost use Rattle.alma_plan.specs.declared.refusal.Refusal.TheVariants.{BadWord};
+ghost use Rattle.alma_driver_outcome.specs.Headline.{AsksToRun, IsInputLeft, RunEnds, ShowsEnd, ShowsResult};
 ghost use Rattle.alma_lower_implements.specs.Implements.{visit_steps};
 ghost use Rattle.alma_run_laws.specs.Stored.{SpellsCodeOf};
 ghost use Rattle.alma_run_laws.specs.Variables.{variable_word};
@@ -167,6 +169,17 @@ pub fn a_list_shows_the_code_of_its_object()
         (status : ℕ) → AsksOf words (Listing object) before bytes
         → Causes words before after status → IsUndisturbed before after status
         → ListEnds words before after status bytes }
+{}
+
+/// Words that ask for nothing are told by their first bad one, and those that ask for a sample show
+/// the line that sums up the run of its source, where memory is found and nothing fails outside.
+pub fn calls_without_a_file_tell_their_words()
+    ensures bad_word { (words : List (List ℕ)) (before after : Outside) (status k : ℕ)
+        → IsBadWord words k → Causes words before after status → IsUndisturbed before after status
+        → ShowsEnd words before after status (Refused (BadWord k)) [] }
+    ensures sample { (words : List (List ℕ)) (before after : Outside) (status lines : ℕ)
+        → Asks words (Sample lines) → Causes words before after status
+        → IsUndisturbed before after status → ShowsSample words before after status lines }
 {}
 
 /// A run of a source, where memory is found and nothing fails outside, reads the input whole where
