@@ -135,7 +135,7 @@ request_absent told left r name due is none (fetched other bytes same has short 
     absurd (subst (λ (t : Told). MayHave t bytes) (sym (ap told one) ∙ none) has)
 request_absent told left r name due is none (outcome.unfetched same o) = cc (is, same)
 
-outcome_absent : (told : List ℕ → Told) (left : Option (List ℕ)) (words : List (List ℕ)) (due : Due) → Lacks words told
+pub outcome_absent : (told : List ℕ → Told) (left : Option (List ℕ)) (words : List (List ℕ)) (due : Due) → Lacks words told
     → Outcome words told left due
     → due.end ≡ end_of_stop stop.Read
 outcome_absent told left words due l (bad_word k bad e) = absurd (bad.none (l.0, l.2))

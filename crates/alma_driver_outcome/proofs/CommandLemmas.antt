@@ -1,8 +1,9 @@
 -- Calls that check, compile or trace a source, or list or run an object, show what is due from it.
-use Rattle.std.proofs.Common.{◌≡◌, ◌≤◌, ◌∙◌, ℕ, List, [], length, ap, sym, subst, arith}
-use Rattle.std.specs.Prelude.{Bool, true, Option, None, Some}
+use Rattle.std.proofs.Common.{◌≡◌, ◌<◌, ◌≤◌, ◌∙◌, ℕ, List, [], length, ap, inl, inr, sym, subst, arith}
+use Rattle.std.specs.Prelude.{Bool, true, Option, None, Some, codes, ◌⊎◌}
 use Rattle.alma_base.specs.Limits.{input_limit}
-use Rattle.alma_io.specs.Outside.{Outside, IsUndisturbed, MayBeLeft, StoredFile}
+use Rattle.alma_io.specs.Files.{Has, MayHave, Told}
+use Rattle.alma_io.specs.Outside.{Gains, Outside, IsUndisturbed, MayBeLeft, StoredFile}
 use Rattle.alma_io.specs.Whole.{MayHaveMore}
 use Rattle.alma_ir.specs.Tree.{Program}
 use Rattle.alma_code.specs.Plain.{PlainCode}
@@ -19,13 +20,20 @@ use Rattle.alma_driver_words.specs.Words.{Request, Check, Compile, Exec, Listing
 use Rattle.alma_driver_words.proofs.BadWords.{one_bad_word}
 use Rattle.alma_driver_words.proofs.WordLemmas.{one_request}
 use Rattle.alma_plan.specs.declared.refusal.Refusal.TheVariants as refusal
-use Rattle.alma_driver_outcome.specs.Words.{read_by}
+use Rattle.alma_driver_outcome.specs.Words.{IsReadBy, limit_of, read_by}
+use Rattle.alma_driver_outcome.specs.Ends.{end_of_stop, ending_in, program, says}
+use Rattle.alma_driver_outcome.proofs.CauseLemmas.{outcome_absent}
+use Rattle.alma_plan.specs.declared.stop.Stop.TheVariants as stop
+use Rattle.alma_plan.specs.Plan as plan
+use Rattle.alma_plan.specs.Plan.{Ending}
+use Rattle.alma_plan.specs.Course.{Reports, said, unsaid}
+use Rattle.alma_plan.specs.Causes.{MayEnd, unread_end, unwritten_end, starved_end, due_end}
 use Rattle.alma_driver_outcome.specs.declared.end.End.TheVariants.{Refused}
 use Rattle.alma_plan.specs.Undisturbed.{ShowsDue}
 use Rattle.alma_source.specs.Refusal.{IsProgramOf}
 use Rattle.alma_source.proofs.RefusalLemmas.{only_fault}
 use Rattle.alma_driver_outcome.specs.Commands.{AsksOf, GivesInput, ShowsRefusal, ShowsSize, CheckEnds, CompileEnds, TraceEnds, ProgramEnds}
-use Rattle.alma_driver_outcome.specs.Commands.{ListEnds, ObjectEnds, ShowsRun, ShowsSample, ShowsTrace, input_by, accepts, lists, runs, stores, traces}
+use Rattle.alma_driver_outcome.specs.Commands.{ListEnds, ObjectEnds, ShowsMissing, ShowsRun, ShowsSample, ShowsTrace, input_by, accepts, lists, runs, stores, traces}
 use Rattle.alma_driver_outcome.specs.Commands as shown
 use Rattle.alma_driver_outcome.specs.Headline.{ShowsEnd}
 use Rattle.alma_driver_outcome.specs.Outcome.{Due, silent, code_due, InputOutcome, unread, taken, past_input, ProgramOutcome, ran}
@@ -34,7 +42,7 @@ use Rattle.alma_driver_outcome.specs.Outcome.{ListOutcome, listed, no_object, Ou
 use Rattle.alma_driver_outcome.specs.Outcome.{RequestOutcome, absent, past_limit, fetched, unfetched}
 use Rattle.alma_driver_outcome.specs.Outcome.{CompileOutcome, made, past_size, ExecOutcome, opened, unopened, executed, unsound}
 use Rattle.alma_driver_outcome.specs.Parts.{shown_in}
-use Rattle.alma_driver_outcome.specs.Scope.{Causes}
+use Rattle.alma_driver_outcome.specs.Scope.{Causes, scope_of}
 use Rattle.alma_driver_outcome.specs.Showing.{Prints, Traces}
 use Rattle.alma_driver_outcome.specs.declared.end.End.{End}
 use Rattle.alma_driver_outcome.proofs.HeadlineLemmas.{program_ends}
@@ -238,3 +246,64 @@ module _ (words : List (List ℕ)) (before after : Outside) (status : ℕ) where
       by_words (asks r h o) =
           by_request
           (subst (λ (q : Request). RequestOutcome before.files.told before.input.left q w.due) (one_request words r (Sample lines) h a) o)
+
+  -- ---- files that are missing or too long
+
+  -- a file that is too long is told
+  pub long_told : (r : Request) (name bytes : List ℕ) → Asks words r → IsReadBy r name → before.files.told name ≡ Has bytes
+      → limit_of r < length bytes → Causes words before after status → IsUndisturbed before after status
+      → ShowsEnd words before after status (end_of_stop stop.TooLong) []
+  long_told r name bytes a reads has long c u = by_words w.outcome
+    where
+      there : Lacks words before.files.told → ⊥
+      there l =
+          let same : l.0 ≡ r = one_request words l.0 r l.2 a in
+          let one : name ≡ l.1 = cc (sym reads ∙ sym (ap read_by same) ∙ l.3) in
+          cc (sym has ∙ ap before.files.told one ∙ l.4)
+
+      w : Came words before after status
+      w = whole_words words before after status there c u
+
+      by_request : RequestOutcome before.files.told before.input.left r w.due
+          → ShowsEnd words before after status (end_of_stop stop.TooLong) []
+      by_request (absent n is gone e) =
+          let same : name ≡ n = cc (sym reads ∙ is) in cc (sym has ∙ ap before.files.told same ∙ gone)
+      by_request (past_limit n is past e) = subst CameDue e w.shows
+      by_request (fetched n other is may few o) =
+          let same : name ≡ n = cc (sym reads ∙ is) in
+          let one : bytes ≡ other = subst (λ (t : Told). MayHave t other) (ap before.files.told (sym same) ∙ has) may in
+          absurd (omega (arith, long, few, ap (λ (b : List ℕ). length b) one))
+      by_request (unfetched is o) = cc (sym reads ∙ is)
+
+      by_words : Outcome words before.files.told before.input.left w.due
+          → ShowsEnd words before after status (end_of_stop stop.TooLong) []
+      by_words (bad_word k bad e) = absurd (bad.none (r, a))
+      by_words (asks q h o) =
+          by_request
+          (subst (λ (x : Request). RequestOutcome before.files.told before.input.left x w.due) (one_request words q r h a) o)
+
+  -- one that is missing is a read fault
+  pub missing_told : Lacks words before.files.told → Causes words before after status → IsUndisturbed before after status
+      → ShowsMissing words before after status
+  missing_told l c u = record { status_is = six; nothing = c.nothing six; told = by_end c.reported.0 c.reported.1 c.reported.2; files = c.files_stay (inl six) }
+    where
+      by_status : (status ≡ 6) ⊎ ((status ≡ 7) ⊎ (status ≡ 8)) → status ≡ 6
+      by_status (inl e) = e
+      by_status (inr (inl e)) = absurd (u.no_write_failed (c.write_fault_is e))
+      by_status (inr (inr e)) = absurd (u.memory e)
+
+      six : status ≡ 6
+      six = by_status (c.absence_shown l)
+
+      text_is : (end : Ending) → MayEnd program (scope_of words before).may end → end.status ≡ 6 → end.text ≡ says (codes "read fault")
+      text_is end (unread_end e) s = ap (λ (x : Ending). x.text) e
+      text_is end (unwritten_end e) s = absurd (omega (arith, s, ap (λ (x : Ending). x.status) e))
+      text_is end (starved_end e) s = absurd (omega (arith, s, ap (λ (x : Ending). x.status) e))
+      text_is end (due_end reading due m e) s =
+          let read = outcome_absent before.files.told before.input.left words m.0 l m.1 in
+          ap (λ (x : Ending). x.text) (sym e ∙ ap (λ (d : plan.Due). d.end) m.3 ∙ ap (λ (x : End). ending_in (file_of words) x) read)
+
+      by_end : (end : Ending) → MayEnd program (scope_of words before).may end → Reports end before.err after.err status
+          → Gains before.err after.err (says (codes "read fault"))
+      by_end end m (said s g) = subst (Gains before.err after.err) (text_is end m (sym s ∙ six)) g
+      by_end end m (unsaid s f) = absurd (omega (arith, s, six))

@@ -1,8 +1,9 @@
 -- What calls come to that check, compile or trace a source, list or run an object, or run a sample.
-use Rattle.std.specs.Prelude.{◌≡◌, ◌<◌, ◌≤◌, suc, Bool, true, false, List, ℕ, [], length, None, Some}
+use Rattle.std.specs.Prelude.{◌≡◌, ◌<◌, ◌≤◌, suc, Bool, true, false, List, ℕ, [], length, codes, None, Some}
+use Rattle.std.specs.Io.KnownBytes.{Appends}
 use Rattle.alma_base.specs.Limits.{size_limit, input_limit}
 use Rattle.alma_io.specs.Files.{Has}
-use Rattle.alma_io.specs.Outside.{Outside}
+use Rattle.alma_io.specs.Outside.{FilesStay, Gains, Outside}
 use Rattle.alma_ir.specs.Tree.{Program}
 use Rattle.alma_mean.specs.Events.{End}
 use Rattle.alma_mean.specs.Meaning.{result}
@@ -15,6 +16,7 @@ use Rattle.alma_code.specs.declared.step.VerifyFault.{VerifyFault}
 use Rattle.alma_lower.specs.CodeFor.{IsCodeFor}
 use Rattle.alma_lower_implements.specs.Implements.{printed_by, state_after}
 use Rattle.alma_lower_sound.specs.Reads.{program_reads}
+use Rattle.alma_driver_words.specs.Exit as exit
 use Rattle.alma_driver_words.specs.Sample.{sample_text}
 use Rattle.alma_driver_words.specs.Words.{Request, Asks, file_of}
 use Rattle.alma_object.specs.Object.{IsObject}
@@ -29,7 +31,7 @@ use Rattle.alma_source.specs.declared.fault.SourceFault.{SourceFault}
 use Rattle.alma_verify.specs.Bytes.{object_code}
 use Rattle.alma_driver_outcome.specs.Words.{limit_of, IsReadBy}
 use Rattle.alma_driver_outcome.specs.Outcome.{IsSampled, code_end, told_end}
-use Rattle.alma_driver_outcome.specs.Ends.{ending_in, sample_line}
+use Rattle.alma_driver_outcome.specs.Ends.{ending_in, sample_line, says}
 use Rattle.alma_driver_outcome.specs.Headline.{ShowsEnd, ShowsResult, ShowsFront}
 use Rattle.alma_driver_outcome.specs.declared.end.End.TheVariants.{BadSource, Refused, Succeeded, TooMuchCode}
 
@@ -138,3 +140,10 @@ module _ (words : List (List ℕ)) (before after : Outside) (status : ℕ) where
     pub sampled : IsSampled (sample_text lines) printed status_of_run
     pub shows : ShowsEnd words before after status (Succeeded None)
         (sample_line lines (length (sample_text lines)) printed status_of_run)
+
+  -- What a call shows whose file is missing: a read fault. Out gained nothing, and the files stay.
+  pub record ShowsMissing : Type 0 where
+    pub status_is : status ≡ exit.read_fault
+    pub nothing : Appends before.out.written after.out.written []
+    pub told : Gains before.err after.err (says (codes "read fault"))
+    pub files : FilesStay before.files after.files

@@ -1,15 +1,19 @@
 //! Laws of the definitions that the contracts cite: functions without work, whose contracts are the
 //! laws.
-ghost use Rattle.std.specs.Prelude.{◌≡◌, ◌≤◌, ◌+◌, ◌*◌, Bool, true, List, ℕ, [], length, Option, Some, map};
+ghost use Rattle.std.specs.Prelude.{◌≡◌, ◌<◌, ◌≤◌, ◌+◌, ◌*◌, Bool, true, List, ℕ, [], length, Option, Some, map};
 ghost use Rattle.alma_base.specs.Limits.{input_limit, size_limit};
 ghost use Rattle.alma_code.specs.Reads.{code_reads};
 ghost use Rattle.alma_verify.specs.Bytes.{object_code};
 ghost use Rattle.alma_source.specs.Refusal.{IsProgramOf};
 ghost use Rattle.alma_io.specs.Outside.{StoredFile, IsUndisturbed, Outside};
-ghost use Rattle.alma_driver_outcome.specs.Outcome.{Due, ProgramOutcome, CompileOutcome, SourceOutcome, Meant, TraceMeant, ListOutcome, ExecOutcome};
+ghost use Rattle.alma_driver_outcome.specs.Outcome.{Due, ProgramOutcome, CompileOutcome, SourceOutcome, Lacks, Meant, TraceMeant, ListOutcome, ExecOutcome};
 ghost use Rattle.alma_driver_outcome.specs.Scope.{Causes};
-ghost use Rattle.alma_driver_outcome.specs.Commands.{AsksOf, CheckEnds, CompileEnds, GivesInput, ListEnds, ObjectEnds, ProgramEnds, ShowsSample, TraceEnds};
-ghost use Rattle.alma_driver_words.specs.Words.{Asks, Check, Compile, Exec, IsBadWord, Listing, Sample, Trace};
+ghost use Rattle.alma_driver_outcome.specs.Commands.{AsksOf, CheckEnds, CompileEnds, GivesInput, ListEnds, ObjectEnds, ProgramEnds, ShowsMissing, ShowsSample, TraceEnds};
+ghost use Rattle.alma_driver_words.specs.Words.{Asks, Request, Check, Compile, Exec, IsBadWord, Listing, Sample, Trace};
+ghost use Rattle.alma_driver_outcome.specs.Ends.{end_of_stop};
+ghost use Rattle.alma_driver_outcome.specs.Words.{limit_of, IsReadBy};
+ghost use Rattle.alma_io.specs.Files.{Has};
+ghost use Rattle.alma_plan.specs.declared.stop.Stop.TheVariants.{TooLong};
 ghost use Rattle.alma_driver_outcome.specs.declared.end.End.TheVariants.{Refused};
 ghost use Rattle.alma_plan.specs.declared.refusal.Refusal.TheVariants.{BadWord};
 ghost use Rattle.alma_driver_outcome.specs.Headline.{AsksToRun, IsInputLeft, RunEnds, ShowsEnd, ShowsResult};
@@ -180,6 +184,19 @@ pub fn calls_without_a_file_tell_their_words()
     ensures sample { (words : List (List ℕ)) (before after : Outside) (status lines : ℕ)
         → Asks words (Sample lines) → Causes words before after status
         → IsUndisturbed before after status → ShowsSample words before after status lines }
+{}
+
+/// A file that is missing is a read fault, and one past its length is told as too long, where memory
+/// is found and nothing fails outside: in whatever call reads it.
+pub fn files_that_do_not_serve_are_told()
+    ensures missing { (words : List (List ℕ)) (before after : Outside) (status : ℕ)
+        → Lacks words before.files.told → Causes words before after status
+        → IsUndisturbed before after status → ShowsMissing words before after status }
+    ensures long { (words : List (List ℕ)) (before after : Outside) (status : ℕ)
+        (request : Request) (name bytes : List ℕ) → Asks words request → IsReadBy request name
+        → before.files.told name ≡ Has bytes → limit_of request < length bytes
+        → Causes words before after status → IsUndisturbed before after status
+        → ShowsEnd words before after status (end_of_stop TooLong) [] }
 {}
 
 /// A run of a source, where memory is found and nothing fails outside, reads the input whole where
