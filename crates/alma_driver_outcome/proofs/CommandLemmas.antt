@@ -33,7 +33,7 @@ use Rattle.alma_plan.specs.Undisturbed.{ShowsDue}
 use Rattle.alma_source.specs.Refusal.{IsProgramOf}
 use Rattle.alma_source.proofs.RefusalLemmas.{only_fault}
 use Rattle.alma_driver_outcome.specs.Commands.{AsksOf, GivesInput, ShowsRefusal, ShowsSize, CheckEnds, CompileEnds, TraceEnds, ProgramEnds}
-use Rattle.alma_driver_outcome.specs.Commands.{ListEnds, ObjectEnds, ShowsMissing, ShowsRun, ShowsSample, ShowsTrace, input_by, accepts, lists, runs, stores, traces}
+use Rattle.alma_driver_outcome.specs.Commands.{ListingEnds, ObjectEnds, ShowsMissing, ShowsCodeRun, ShowsSample, ShowsTrace, input_by, accepts, lists, runs, stores, traces}
 use Rattle.alma_driver_outcome.specs.Commands as shown
 use Rattle.alma_driver_outcome.specs.Headline.{ShowsEnd}
 use Rattle.alma_driver_outcome.specs.Outcome.{Due, silent, code_due, InputOutcome, unread, taken, past_input, ProgramOutcome, ran}
@@ -137,14 +137,14 @@ module _ (words : List (List ℕ)) (before after : Outside) (status : ℕ) where
   exec_of p bytes input steps stats due is given h (unopened fault c e) = cc (is.clean, c)
 
   -- bytes that are listed
-  list_of : (bytes : List ℕ) (due : Due) → CameDue due → ListOutcome bytes due → ListEnds words before after status bytes
+  list_of : (bytes : List ℕ) (due : Due) → CameDue due → ListOutcome bytes due → ListingEnds words before after status bytes
   list_of bytes due h (listed clean is e) = lists clean is (subst CameDue e h)
-  list_of bytes due h (no_object fault is e) = shown.ListEnds.no_object fault is (subst CameDue e h)
+  list_of bytes due h (no_object fault is e) = shown.ListingEnds.no_object fault is (subst CameDue e h)
 
   -- bytes that are run
   module _ (bytes input : List ℕ) (steps : ℕ) (stats : Bool) (due : Due) (h : CameDue due) where
     abbrev ran_on : List ℕ → Type 0
-    ran_on i = ShowsRun words before after status (object_code bytes) i steps stats
+    ran_on i = ShowsCodeRun words before after status (object_code bytes) i steps stats
 
     run_by : (code_reads (object_code bytes) ≡ true → before.input.left ≡ Some input) → length input ≤ input_limit
         → InputOutcome before.input.left (object_code bytes) steps (Prints stats) due
@@ -190,7 +190,7 @@ module _ (words : List (List ℕ)) (before after : Outside) (status : ℕ) where
       exec_of p bytes input steps stats w.due is given w.shows w.outcome
 
   pub list_ends : (object bytes : List ℕ) → AsksOf words (Listing object) before bytes → Causes words before after status
-      → IsUndisturbed before after status → ListEnds words before after status bytes
+      → IsUndisturbed before after status → ListingEnds words before after status bytes
   list_ends object bytes a c u =
       let w = whole_call words (Listing object) bytes before after status a c u in list_of bytes w.due w.shows w.outcome
 

@@ -37,7 +37,7 @@ use Rattle.alma_driver_outcome.specs.declared.end.End.TheVariants.{BadSource, Re
 
 -- ---- what is asked for
 
--- the words ask for this, and the file that it reads has these bytes, within their length
+-- the words ask for this, and the file that it reads has these bytes, within their length, as AsksToRun says it of `run`
 pub record AsksOf (words : List (List ℕ)) (request : Request) (before : Outside) (bytes : List ℕ) : Type 0 where
   pub asks : Asks words request
   pub name : List ℕ
@@ -112,15 +112,15 @@ module _ (words : List (List ℕ)) (before after : Outside) (status : ℕ) where
     ran_out : ShowsFront words stats p input steps before after status → ProgramEnds p input steps stats
 
   -- What a call shows that asks to list bytes: the text of the code whose object they are, or the first fault of the format.
-  pub data ListEnds (bytes : List ℕ) : Type 0 where
+  pub data ListingEnds (bytes : List ℕ) : Type 0 where
     lists : object_fault bytes ≡ None → IsObject (object_code bytes) bytes
-        → ShowsEnd words before after status (Succeeded None) (list_text (object_code bytes)) → ListEnds bytes
+        → ShowsEnd words before after status (Succeeded None) (list_text (object_code bytes)) → ListingEnds bytes
     no_object : (fault : ObjectFault) → object_fault bytes ≡ Some fault
-        → ShowsEnd words before after status (Refused (refusal.BadObject fault)) [] → ListEnds bytes
+        → ShowsEnd words before after status (Refused (refusal.BadObject fault)) [] → ListingEnds bytes
 
   -- code ran on an input for so many steps: out gained its prints, and its end is shown, behind counts where they are asked for
-  abbrev pub ShowsRun : PlainCode → (input : List ℕ) → (steps : ℕ) → (stats : Bool) → Type 0
-  ShowsRun code input steps stats =
+  abbrev pub ShowsCodeRun : PlainCode → (input : List ℕ) → (steps : ℕ) → (stats : Bool) → Type 0
+  ShowsCodeRun code input steps stats =
       ShowsEnd words before after status (code_end code stats (state_after code input steps)) (printed_by code input steps)
 
   -- What a call shows that asks to run bytes, whoever made them: the first fault of the format, or the first rule of sound code that
@@ -131,7 +131,7 @@ module _ (words : List (List ℕ)) (before after : Outside) (status : ℕ) where
     unsound : (fault : VerifyFault) → object_fault bytes ≡ None → code_fault (object_code bytes) ≡ Some fault
         → ShowsEnd words before after status (Refused (refusal.BadCode fault)) [] → ObjectEnds bytes input steps stats
     runs : object_fault bytes ≡ None → code_fault (object_code bytes) ≡ None
-        → ShowsRun (object_code bytes) (input_by (code_reads (object_code bytes)) input) steps stats → ObjectEnds bytes input steps stats
+        → ShowsCodeRun (object_code bytes) (input_by (code_reads (object_code bytes)) input) steps stats → ObjectEnds bytes input steps stats
 
   -- What a call shows that asks for a sample of so many lines: the line that sums up the run of its source on an empty input.
   pub record ShowsSample (lines : ℕ) : Type 0 where

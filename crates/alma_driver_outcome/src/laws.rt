@@ -8,7 +8,7 @@ ghost use Rattle.alma_source.specs.Refusal.{IsProgramOf};
 ghost use Rattle.alma_io.specs.Outside.{StoredFile, IsUndisturbed, Outside};
 ghost use Rattle.alma_driver_outcome.specs.Outcome.{Due, ProgramOutcome, CompileOutcome, SourceOutcome, Lacks, Meant, TraceMeant, ListOutcome, ExecOutcome};
 ghost use Rattle.alma_driver_outcome.specs.Scope.{Causes};
-ghost use Rattle.alma_driver_outcome.specs.Commands.{AsksOf, CheckEnds, CompileEnds, GivesInput, ListEnds, ObjectEnds, ProgramEnds, ShowsMissing, ShowsSample, TraceEnds};
+ghost use Rattle.alma_driver_outcome.specs.Commands.{AsksOf, CheckEnds, CompileEnds, GivesInput, ListingEnds, ObjectEnds, ProgramEnds, ShowsMissing, ShowsSample, TraceEnds};
 ghost use Rattle.alma_driver_words.specs.Words.{Asks, Request, Check, Compile, Exec, IsBadWord, Listing, Sample, Trace};
 ghost use Rattle.alma_driver_outcome.specs.Ends.{end_of_stop};
 ghost use Rattle.alma_driver_outcome.specs.Words.{limit_of, IsReadBy};
@@ -90,8 +90,9 @@ pub fn a_trace_shows_the_variables_of_its_source()
         → (plain.routine_at code r).name ≡ (tree.routine_at p r).name }
 {}
 
-/// What a trace shows of watched names where a branch fails is what they were at its choice point:
-/// over any number of steps between the line `choice` of an entry and its line `fail`, on any code.
+/// What a trace shows of watched names where a branch fails is what they were at its choice point,
+/// which is before the step that makes the entry, and of a body of FORALL behind it: over any
+/// number of steps between the line `choice` of an entry and its line `fail`, on any code.
 pub fn a_failure_shows_the_values_at_its_choice()
     ensures values { (code : PlainCode) (input : List ℕ) (names : List (List ℕ))
         → ShowsValuesBack code input names }
@@ -128,10 +129,10 @@ pub fn a_compile_stores_code_of_its_source()
         → CompileEnds words before after status source object }
 {}
 
-/// A trace of a source on an input, which is told where its program has a READ, where memory is
-/// found and nothing fails outside, refuses the source for its one stated fault, or for its size;
-/// or out gains the text of a run of sound code that implements its program, and the call ends as
-/// the meaning does, or its steps ran out.
+/// A trace of a source on an input, which is told where its program has a READ and within its
+/// length, where memory is found and nothing fails outside, refuses the source for its one stated
+/// fault, or for its size; or out gains the text of a run of sound code that implements its
+/// program, and the call ends as the meaning does, or its steps ran out.
 pub fn a_trace_tells_a_run_of_its_source()
     ensures shown { (words : List (List ℕ)) (name source input : List ℕ) (steps : ℕ)
         (watch : List (List ℕ)) (before after : Outside) (status : ℕ)
@@ -141,9 +142,10 @@ pub fn a_trace_tells_a_run_of_its_source()
         → TraceEnds words before after status source input steps watch }
 {}
 
-/// A run of an object that spells code of a program, where memory is found and nothing fails
-/// outside, prints what the program means, and ends in its success, failure or fault; or its steps
-/// ran out, and it printed a front of that, which covers one visit for each 32 steps.
+/// A run of an object that spells code of a program, on an input, which is told where that has a
+/// READ and within its length, where memory is found and nothing fails outside, prints what the
+/// program means, and ends in its success, failure or fault; or its steps ran out, and it printed a
+/// front of that, which covers one visit for each 32 steps.
 pub fn an_exec_shows_what_its_program_means()
     ensures shown { (words : List (List ℕ)) (object bytes input : List ℕ) (steps : ℕ)
         (stats : Bool) (p : Program) (before after : Outside) (status : ℕ)
@@ -153,9 +155,10 @@ pub fn an_exec_shows_what_its_program_means()
         → ProgramEnds words before after status p input steps stats }
 {}
 
-/// A run of bytes, whoever made them, where memory is found and nothing fails outside, tells the
-/// first fault of their format, or the first rule of sound code that they break; or makes a run of
-/// the code that is read from them.
+/// A run of bytes, whoever made them, on an input, which is told where their code reads and within
+/// its length, where memory is found and nothing fails outside, tells the first fault of their
+/// format, or the first rule of sound code that they break; or makes a run of the code that is read
+/// from them.
 pub fn an_exec_runs_the_code_of_its_object()
     ensures shown { (words : List (List ℕ)) (object bytes input : List ℕ) (steps : ℕ)
         (stats : Bool) (before after : Outside) (status : ℕ)
@@ -172,7 +175,7 @@ pub fn a_list_shows_the_code_of_its_object()
     ensures shown { (words : List (List ℕ)) (object bytes : List ℕ) (before after : Outside)
         (status : ℕ) → AsksOf words (Listing object) before bytes
         → Causes words before after status → IsUndisturbed before after status
-        → ListEnds words before after status bytes }
+        → ListingEnds words before after status bytes }
 {}
 
 /// Words that ask for nothing are told by their first bad one, and those that ask for a sample show
@@ -186,8 +189,8 @@ pub fn calls_without_a_file_tell_their_words()
         → IsUndisturbed before after status → ShowsSample words before after status lines }
 {}
 
-/// A file that is missing is a read fault, and one past its length is told as too long, where memory
-/// is found and nothing fails outside: in whatever call reads it.
+/// A file that is missing is a read fault, and one past its length is told as too long, where
+/// memory is found and nothing fails outside: in whatever call reads it.
 pub fn files_that_do_not_serve_are_told()
     ensures missing { (words : List (List ℕ)) (before after : Outside) (status : ℕ)
         → Lacks words before.files.told → Causes words before after status

@@ -74,7 +74,8 @@ struct Summary {
     status: u8,
 }
 
-// Runs a source on an empty input. A fault of what is held in memory is want of memory.
+// Runs a source on an empty input. Any refusal is want of memory: no other comes where input and
+// output are held in memory.
 fn run_aside(alloc: Global, source: &[u8]) -> Result<Summary, NoMemory>
     requires short { length source.now ≤ source_limit }
     ensures { IfOk result (λ told. IsSampled source.now told.printed told.status) }
