@@ -11,9 +11,9 @@ use Rattle.alma_mean.specs.Meaning.{ev_program}
 use Rattle.alma_listing.specs.Lister.{listing_of}
 use Rattle.alma_listing.specs.Listing.{alternatives, line_visits, listing_text, listing, more_levels}
 use Rattle.alma_io.specs.Outside.{Outside}
-use Rattle.alma_plan.specs.Plan.{Due, Ending, silent, steps_out, success}
+use Rattle.alma_plan.specs.Plan.{Due, Ending, silent, steps_out, success, too_much_code}
 use Rattle.alma_plan.specs.Meant.{meant_ending}
-use Rattle.alma_plan.specs.Programs.{Runs, refuse_source, too_much_code}
+use Rattle.alma_plan.specs.Programs.{Runs, refuse_source}
 use Rattle.alma_plan.specs.Undisturbed.{GivesSource, ShowsDue}
 use Rattle.alma_run_laws.specs.Shown.{size_of}
 use Rattle.alma_source.specs.Refusal.{IsProgramOf, IsOnlyFault, place_of}
@@ -81,7 +81,7 @@ pub data ListEnds (file source input : List ℕ) (steps : ℕ) (before after : O
       → ListEnds file source input steps before after status
   -- the program that lists the alternatives is too large
   too_large : (p : Program) → IsProgramOf source p → body_returns p ≡ false → size_limit < size_of (listing_of p)
-      → ShowsDue before after status (silent (too_much_code program (listing_of p)))
+      → ShowsDue before after status (silent (too_much_code program (size_of (listing_of p))))
       → ListEnds file source input steps before after status
   -- else its alternatives are listed, or a front of them
   lists : (p : Program) (due : Due) → IsProgramOf source p → body_returns p ≡ false → size_of (listing_of p) ≤ size_limit

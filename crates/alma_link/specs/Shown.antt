@@ -6,9 +6,9 @@ use Rattle.alma_ir.specs.Tree.{Program}
 use Rattle.alma_join.specs.Joined.{JoinFault, join_fault, joined_program}
 use Rattle.alma_lower_sound.specs.Reads.{program_reads}
 use Rattle.alma_io.specs.Outside.{Outside}
-use Rattle.alma_plan.specs.Plan.{Due, silent}
+use Rattle.alma_plan.specs.Plan.{Due, silent, too_much_code}
 use Rattle.alma_plan.specs.Meant.{IsMeant}
-use Rattle.alma_plan.specs.Programs.{refuse_source, storing, too_much_code}
+use Rattle.alma_plan.specs.Programs.{refuse_source, storing}
 use Rattle.alma_plan.specs.Undisturbed.{ShowsDue}
 use Rattle.alma_run_laws.specs.Shown.{size_of}
 use Rattle.alma_run_laws.specs.Stored.{SpellsCodeOf}
@@ -65,7 +65,7 @@ pub data ModulesEnd (Performs : Program → Type 0) (files sources : List (List 
       → ModulesEnd Performs files sources before after status
   -- the joined program is too large
   too_large : (units : List Program) → AreModulesOf sources units → join_fault units ≡ None → size_limit < size_of (joined_program units)
-      → ShowsDue before after status (silent (too_much_code program (joined_program units)))
+      → ShowsDue before after status (silent (too_much_code program (size_of (joined_program units))))
       → ModulesEnd Performs files sources before after status
   -- else the task is performed with it
   performs : (units : List Program) → AreModulesOf sources units → join_fault units ≡ None → size_of (joined_program units) ≤ size_limit

@@ -9,10 +9,10 @@ use Rattle.alma_ir.specs.Tree.{Program}
 use Rattle.alma_lower_implements.specs.Implements.{state_after, line_in}
 use Rattle.alma_lower_sound.specs.Reads.{program_reads}
 use Rattle.alma_plan.proofs.OwnEnds.{IsOwn, HasOwnEnds}
-use Rattle.alma_plan.specs.Plan.{Due, Ending, Plan, Ends, silent}
+use Rattle.alma_plan.specs.Plan.{Due, Ending, Plan, Ends, silent, too_much_code}
 use Rattle.alma_source.specs.Verdict.{Verdict, Accepted, Rejected}
 use Rattle.alma_plan.specs.Programs.{Last, Tells, Runs, Stores, sense, end_of, mode_end, accept_source, read_source, refuse_source, run_on}
-use Rattle.alma_plan.specs.Programs.{run_plan, store_plan, too_much_code, unless_large}
+use Rattle.alma_plan.specs.Programs.{run_plan, store_plan, unless_large}
 use Rattle.alma_run_laws.specs.Shown.{size_of}
 
 -- a status that is no fault of the outside, and no want of memory
@@ -49,7 +49,7 @@ module _ (program : List ℕ) (failed : Ending) where
   -- a program that is too large, or goes on
   own_unless : (large : Bool) (p : Program) (next : Plan Verdict Last) → HasOwnEnds (sense program failed) next
       → HasOwnEnds (sense program failed) (unless_large large program p next)
-  own_unless true p next own = own_tells (silent (too_much_code program p)) (own_status 11 (inr (omega arith)))
+  own_unless true p next own = own_tells (silent (too_much_code program (size_of p))) (own_status 11 (inr (omega arith)))
   own_unless false p next own = own
 
   -- an object is stored

@@ -6,11 +6,11 @@ use Rattle.alma_base.specs.Limits.{size_limit}
 use Rattle.alma_io.specs.Sides.{SinkSide, SourceSide, FilesSide}
 use Rattle.alma_ir.specs.Tree.{Program}
 use Rattle.alma_plan.specs.Course.{Follows, whole}
-use Rattle.alma_plan.specs.Plan.{Ending, Plan, silent, tells}
+use Rattle.alma_plan.specs.Plan.{Ending, Plan, silent, tells, too_much_code}
 use Rattle.alma_plan.proofs.Courses.{course_ends, gains_none}
 use Rattle.alma_run_laws.specs.Shown.{size_of}
 use Rattle.alma_source.specs.Verdict.{Verdict}
-use Rattle.alma_plan.specs.Programs.{Last, Tells, sense, too_much_code, unless_large, within_size}
+use Rattle.alma_plan.specs.Programs.{Last, Tells, sense, unless_large, within_size}
 
 module _ (program : List ℕ) (failed : Ending) (p : Program) (next : Plan Verdict Last) where
   -- a program within its limit goes on
@@ -28,6 +28,6 @@ module _ (program : List ℕ) (failed : Ending) (p : Program) (next : Plan Verdi
   course_large f i o n large is =
       subst (λ (b : Bool). Follows (sense program failed) program (unless_large b program p next) f f i i o o
       (tells program 11 (codes "too much code " ++ decimal n))) (sym (lt-ltb size_limit (size_of p) large))
-      (course_ends (sense program failed) program (Tells (silent (too_much_code program p))) f i o o _
-      (whole (silent (too_much_code program p)) refl (ap (λ k. tells program 11 (codes "too much code " ++ decimal k)) (sym is)) refl
+      (course_ends (sense program failed) program (Tells (silent (too_much_code program (size_of p)))) f i o o _
+      (whole (silent (too_much_code program (size_of p))) refl (ap (λ k. tells program 11 (codes "too much code " ++ decimal k)) (sym is)) refl
       (gains_none o)))

@@ -12,9 +12,9 @@ use Rattle.alma_io.specs.Whole.{MayHaveMore}
 use Rattle.alma_ir.specs.Tree.{Program}
 use Rattle.alma_lower_implements.specs.Implements.{state_after, printed_by, line_in}
 use Rattle.alma_lower_sound.specs.Reads.{program_reads}
-use Rattle.alma_plan.specs.Plan.{Due, Ending, Plan, Sense, Reading, Asks, Comes, Fetches, Judges, Reads, Ends, silent}
+use Rattle.alma_plan.specs.Plan.{Due, Ending, Plan, Sense, Reading, Asks, Comes, Fetches, Judges, Reads, Ends, silent, too_much_code}
 use Rattle.alma_io.specs.Outside.{MayBeLeft}
-use Rattle.alma_plan.specs.Programs.{Last, Runs, Stores, Means, sense, mode_end, refuse_source, too_much_code, unless_large, run_on}
+use Rattle.alma_plan.specs.Programs.{Last, Runs, Stores, Means, sense, mode_end, refuse_source, unless_large, run_on}
 use Rattle.alma_plan.specs.Programs.{run_plan}
 use Rattle.alma_plan.specs.Programs.{accept_source, read_source, store_plan, within_size}
 use Rattle.alma_run_laws.proofs.Unread.{after_alike, prints_alike}
@@ -124,7 +124,7 @@ module _ (program : List ℕ) (failed : Ending) where
     -- a program is refused, where it is too large, or goes on
     abbrev pub IsLargeOr : Program → (goes_on : Type 0) → Type 0
     IsLargeOr p goes_on =
-        ((size_limit < size_of p) × (due ≡ silent (too_much_code program p)))
+        ((size_limit < size_of p) × (due ≡ silent (too_much_code program (size_of p))))
         ⊎ ((size_of p ≤ size_limit) × goes_on)
 
     sized_comes : (p : Program) (next : Plan Verdict Last) → ComesOf (within_size program p next) → IsLargeOr p (ComesOf next)

@@ -4,7 +4,7 @@ use Rattle.alma_code.specs.declared.step.End.TheVariants as ended
 use Rattle.alma_machine.specs.declared.machine.RunEnd.{RunEnd}
 use Rattle.alma_machine.specs.declared.machine.RunEnd.TheVariants as run
 use Rattle.alma_plan.specs.declared.stop.Stop.TheVariants as stop
-use Rattle.alma_plan.specs.Plan.{Ending, steps_out, success, too_large}
+use Rattle.alma_plan.specs.Plan.{Ending, steps_out, success, too_much_code}
 use Rattle.alma_plan.specs.Refusals.{stop_end}
 use Rattle.alma_plan.specs.Programs.{end_of, refuse_source}
 use Rattle.alma_plan.specs.declared.end.ProgramEnd.{ProgramEnd}
@@ -20,7 +20,7 @@ abbrev pub program_end : (program : List ℕ) → (failed : Ending) → ProgramE
 program_end program failed (Ended end line) = end_of program failed end line
 program_end program failed Stored = success
 program_end program failed StepsOut = steps_out program
-program_end program failed (TooMuchCode size) = too_large program size
+program_end program failed (TooMuchCode size) = too_much_code program size
 program_end program failed (Stopped stop) = stop_end program stop
 
 -- the end at a file that is to hold a source

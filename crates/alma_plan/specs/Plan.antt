@@ -31,9 +31,13 @@ line_of program text = program ++ (codes ": " ++ (text ++ codes "\n"))
 abbrev pub tells : (program : List ℕ) → (status : ℕ) → (text : List ℕ) → Ending
 tells program status text = ending_of status (line_of program text)
 
--- the ends that every program may come to; a bad word is told by its number, from 1
+-- what is said of a bad word, by its number, from 1
+abbrev pub bad_word_text : (word : ℕ) → List ℕ
+bad_word_text word = codes "bad word " ++ decimal word
+
+-- the ends that every program may come to: a word cannot stand where it is
 abbrev pub bad_word : (program : List ℕ) → (word : ℕ) → Ending
-bad_word program word = tells program exit.bad_word (codes "bad word " ++ decimal word)
+bad_word program word = tells program exit.bad_word (bad_word_text word)
 
 -- a file is missing, or a fetch or a read of the input failed
 abbrev pub read_fault : (program : List ℕ) → Ending
@@ -56,8 +60,8 @@ abbrev pub steps_out : (program : List ℕ) → Ending
 steps_out program = tells program exit.steps_out (codes "steps out")
 
 -- a program is too large, by its size
-abbrev pub too_large : (program : List ℕ) → (size : ℕ) → Ending
-too_large program size = tells program exit.too_much_code (codes "too much code " ++ decimal size)
+abbrev pub too_much_code : (program : List ℕ) → (size : ℕ) → Ending
+too_much_code program size = tells program exit.too_much_code (codes "too much code " ++ decimal size)
 
 -- success, without a word on err
 abbrev pub success : Ending

@@ -20,7 +20,7 @@ use Rattle.alma_lower.specs.CodeFor.{IsCodeFor}
 use Rattle.alma_source.specs.Texts.{refusal_text}
 use Rattle.alma_source.specs.Verdict.{Verdict, Accepted, Rejected, IsVerdict}
 use Rattle.alma_source.specs.declared.fault.SourceFault.{SourceFault}
-use Rattle.alma_plan.specs.Plan.{Due, Ending, Plan, Sense, Fetches, Judges, Reads, Ends, ending_of, silent, steps_out, success, tells, too_large}
+use Rattle.alma_plan.specs.Plan.{Due, Ending, Plan, Sense, Fetches, Judges, Reads, Ends, ending_of, silent, steps_out, success, tells, too_much_code}
 
 -- ---- what is due
 
@@ -84,13 +84,9 @@ module _ (program : List ℕ) (failed : Ending) where
 
 -- ---- plans
 
--- the end of a program that is too large
-abbrev pub too_much_code : (program : List ℕ) → Program → Ending
-too_much_code program p = too_large program (size_of p)
-
 -- a program within its limit of size goes on, and another is refused with its size
 abbrev pub unless_large : (is_large : Bool) → (program : List ℕ) → Program → Plan Verdict Last → Plan Verdict Last
-unless_large true program p next = Ends (Tells (silent (too_much_code program p)))
+unless_large true program p next = Ends (Tells (silent (too_much_code program (size_of p))))
 unless_large false program p next = next
 
 -- the same by the size of the program

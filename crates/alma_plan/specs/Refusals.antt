@@ -8,7 +8,7 @@ use Rattle.alma_io.specs.declared.whole.ReadAll.{ReadAll}
 use Rattle.alma_io.specs.declared.whole.ReadAll.TheVariants as whole
 use Rattle.alma_object_format.specs.declared.fault.ObjectFault.{ObjectFault}
 use Rattle.alma_object_format.specs.Fault.{object_fault_name, object_fault_number}
-use Rattle.alma_plan.specs.Plan.{Ending, success, tells}
+use Rattle.alma_plan.specs.Plan.{Ending, bad_word_text, success, tells}
 use Rattle.alma_plan.specs.declared.refusal.Refusal.{Refusal}
 use Rattle.alma_plan.specs.declared.refusal.Refusal.TheVariants.{BadWord, BadObject, BadCode, Stopped}
 use Rattle.alma_plan.specs.declared.stop.Stop.{Stop}
@@ -73,7 +73,7 @@ refusal_status (Stopped stop) = stop_status stop
 
 -- what is said of it on err, behind the name of the program
 abbrev pub refusal_text : Refusal → List ℕ
-refusal_text (BadWord word) = codes "bad word " ++ decimal word
+refusal_text (BadWord word) = bad_word_text word
 refusal_text (BadObject fault) = object_fault_text fault
 refusal_text (BadCode fault) = rule_fault_text fault
 refusal_text (Stopped stop) = stop_text stop

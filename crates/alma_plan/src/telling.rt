@@ -2,7 +2,7 @@
 ghost use Rattle.std.specs.Prelude.{[], decimal};
 ghost use Rattle.alma_driver_words.specs.Exit as exit;
 ghost use Rattle.alma_plan.specs.Course.{Reports};
-ghost use Rattle.alma_plan.specs.Plan.{ending_of, steps_out, tells, too_large};
+ghost use Rattle.alma_plan.specs.Plan.{ending_of, steps_out, tells, too_much_code};
 ghost use Rattle.alma_plan.specs.Ends.{program_end};
 ghost use Rattle.alma_plan.specs.Programs.{fault_words, named_words, refuse_source};
 ghost use Rattle.alma_source.specs.Texts.{refusal_line};
@@ -57,7 +57,7 @@ pub fn tell_steps_out<E: Sink>(err: &mut E, program: &[u8]) -> Status
 /// Says on err, in the name of a program, that another is too large, by its size: the status of
 /// that, or that of a write fault where err fails.
 pub fn tell_too_much_code<E: Sink>(err: &mut E, program: &[u8], size: u64) -> Status
-    ensures { Reports (too_large program.now size) (E.side err.old) (E.side err.new) result.0 }
+    ensures { Reports (too_much_code program.now size) (E.side err.old) (E.side err.new) result.0 }
 {
     tell_number(err, program, exit::TOO_MUCH_CODE, b"too much code ", size)
 }
