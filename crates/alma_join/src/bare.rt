@@ -76,8 +76,8 @@ pub fn mark_bare(alloc: Global, program: &Program) -> Result<Vec<bool>, NoMemory
 {
     let outer = mark_outer(alloc, program)?;
     let mut marks = Vec::new(alloc);
-    for r in 0..program.routines.len() {
-        marks.push(is_bare(&program.routines[r], outer[r]))?;
+    for (r, routine) in program.routines.iter().enumerate() {
+        marks.push(is_bare(routine, outer[r]))?;
     }
     Ok(marks)
 }

@@ -116,8 +116,8 @@ pub fn directory_of<'p>(alloc: Global, units: &'p [Program]) -> Result<Directory
         entries: IndexMap::new(alloc),
         next: 1,
     };
-    for i in 0..units.len() {
-        add_unit(alloc, &mut directory, i as u32 + 1, &units[i])?;
+    for (i, program) in units.iter().enumerate() {
+        add_unit(alloc, &mut directory, i as u32 + 1, program)?;
     }
     Ok(directory)
 }

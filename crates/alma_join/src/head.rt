@@ -39,8 +39,8 @@ fn same_params(a: &[Param], b: &[Param]) -> bool
     if a.len() != b.len() {
         return false;
     }
-    for i in 0..a.len() {
-        if !same_param(&a[i], &b[i]) {
+    for (i, param) in a.iter().enumerate() {
+        if !same_param(param, &b[i]) {
             return false;
         }
     }

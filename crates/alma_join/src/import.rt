@@ -122,9 +122,9 @@ fn number_units(
 {
     let mut tables = Vec::new(alloc);
     let mut next = 1;
-    for i in 0..units.len() {
+    for (i, program) in units.iter().enumerate() {
         let unit = i as u32 + 1;
-        tables.push(number_unit(alloc, directory, &mut next, unit, &units[i])?)?;
+        tables.push(number_unit(alloc, directory, &mut next, unit, program)?)?;
     }
     Ok(tables)
 }

@@ -141,8 +141,8 @@ pub fn parts_of(alloc: Global, units: &[Program], tables: &[Vec<u32>]) -> Result
         declared: 0,
         slots: 0,
     };
-    for i in 0..units.len() {
-        add_unit(alloc, &mut parts, &units[i], &tables[i])?;
+    for (i, program) in units.iter().enumerate() {
+        add_unit(alloc, &mut parts, program, &tables[i])?;
     }
     Ok(parts)
 }

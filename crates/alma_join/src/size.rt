@@ -79,23 +79,14 @@ fn count_texts(routines: &[Routine]) -> u64
     total
 }
 
-// The cells that the body of a module declares.
-fn declared_of(program: &Program) -> u64
-    ensures { result ≡ (routine_at (program_of program.now) 0).declared }
+// The cells that the body of a module declares, and its slots.
+fn body_size(program: &Program) -> (u64, u64)
+    ensures declared { result.0 ≡ (routine_at (program_of program.now) 0).declared }
+    ensures slots { result.1 ≡ (routine_at (program_of program.now) 0).slots }
 {
     match program.routines.first() {
-        Some(body) => body.declared as u64,
-        None => 0,
-    }
-}
-
-// The slots of the body of a module.
-fn slots_of(program: &Program) -> u64
-    ensures { result ≡ (routine_at (program_of program.now) 0).slots }
-{
-    match program.routines.first() {
-        Some(body) => body.slots as u64,
-        None => 0,
+        Some(body) => (u64::from(body.declared), u64::from(body.slots)),
+        None => (0, 0),
     }
 }
 
@@ -104,10 +95,11 @@ fn with_unit(totals: Totals, program: &Program) -> Totals
     ensures { (all : joined.Totals) → AreTotals totals all
         → AreTotals result (joined.with_unit all (program_of program.now)) }
 {
+    let (declared, slots) = body_size(program);
     let names = count_names(&program.routines).saturating_add(count_global_names(&program.globals));
     Totals {
-        declared: totals.declared.saturating_add(declared_of(program)),
-        slots: totals.slots.saturating_add(slots_of(program)),
+        declared: totals.declared.saturating_add(declared),
+        slots: totals.slots.saturating_add(slots),
         globals: totals.globals.saturating_add(program.globals.len() as u64),
         params: totals
             .params
@@ -143,8 +135,8 @@ pub fn first_too_large(units: &[Program]) -> Option<u32>
         names: 0,
         texts: 0,
     };
-    for i in 0..units.len() {
-        totals = with_unit(totals, &units[i]);
+    for (i, program) in units.iter().enumerate() {
+        totals = with_unit(totals, program);
         if passes(totals) {
             return Some(i as u32 + 1);
         }
