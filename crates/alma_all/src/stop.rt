@@ -1,11 +1,11 @@
-// How a call ends that lists nothing.
+// What stops a call of this program before its own end.
 ghost use Rattle.std.specs.Prelude.{◌≡◌};
 ghost use Rattle.alma_all.specs.Ends.{listing_error};
 
 use alma_listing::ListingError;
 use alma_plan::{FileStop, Refusal, Stop};
 
-/// Why a call lists nothing, but for what becomes of its text on err.
+/// What stops a call of this program before its own end.
 #[derive(Clone, Copy)]
 pub enum AllStop<'w> {
     /// The call is refused as every program may refuse.

@@ -9,8 +9,6 @@ use Rattle.alma_driver_words.specs.Words.{texts}
 use Rattle.alma_plan.specs.Ends.{file_end, program_end}
 use Rattle.alma_plan.specs.Refusals.{refusal_end}
 use Rattle.alma_plan.specs.declared.end.ProgramEnd.{ProgramEnd}
-use Rattle.alma_plan.specs.declared.refusal.Refusal.TheVariants.{Stopped}
-use Rattle.alma_plan.specs.declared.stop.Stop.TheVariants.{Memory}
 use Rattle.alma_link.specs.declared.stop.LinkStop.{LinkStop}
 use Rattle.alma_link.specs.declared.stop.LinkStop.TheVariants.{Refused, Unread, Unjoined}
 use Rattle.alma_link.specs.declared.words.Task as word_task
@@ -35,10 +33,6 @@ join_end units (join.Twice unit routine) = join_refusal units (fault.Twice unit 
 join_end units (join.HeadDiffers unit routine) = join_refusal units (fault.HeadDiffers unit routine)
 join_end units (join.TooLarge unit) = join_refusal units (fault.TooLarge unit)
 join_end units join.Memory = no_memory program
-
--- why a call performs nothing for which memory ran out
-abbrev pub starved : LinkStop
-starved = Refused (Stopped Memory)
 
 -- how a call ends that performs nothing, and read these modules
 abbrev pub stop_ending : List Program → LinkStop → Ending

@@ -1,11 +1,11 @@
-// How a call ends that performs nothing.
+// What stops a call of this program before its own end.
 ghost use Rattle.std.specs.Prelude.{◌≡◌};
 
 use alma_join::JoinError;
 use alma_plan::{FileStop, Refusal, Stop};
 use std::alloc::AllocFailed;
 
-/// Why a call neither runs a program nor stores one, but for what becomes of its text on err.
+/// What stops a call of this program before its own end.
 #[derive(Clone, Copy)]
 pub enum LinkStop<'w> {
     /// The call is refused as every program may refuse.
@@ -37,9 +37,11 @@ impl<'w> From<JoinError> for LinkStop<'w> {
 }
 
 impl<'w, T: Drop> From<AllocFailed<T>> for LinkStop<'w> {
-    ghost use Rattle.alma_link.specs.Ends.{starved};
+    ghost use Rattle.alma_link.specs.declared.stop.LinkStop.TheVariants.{Refused};
+    ghost use Rattle.alma_plan.specs.declared.refusal.Refusal.TheVariants.{Stopped};
+    ghost use Rattle.alma_plan.specs.declared.stop.Stop.TheVariants.{Memory};
 
-    ghost from_gives = { λ _ error. error ≡ starved };
+    ghost from_gives = { λ _ error. error ≡ Refused (Stopped Memory) };
 
     fn from(_: AllocFailed<T>) -> Self {
         LinkStop::Refused(Refusal::from(Stop::Memory))

@@ -1,4 +1,4 @@
-// What a call stops at.
+// What stops a call of this program before its own end.
 ghost use Rattle.std.specs.Prelude.{◌≡◌};
 ghost use Rattle.alma_plan.specs.Refusals.{fetch_stop};
 
@@ -6,7 +6,7 @@ use alma_io::Fetch;
 use alma_plan::{Refusal, Stop};
 use std::alloc::AllocFailed;
 
-/// What a call stops at, before all turns were made and the programs were shown.
+/// What stops a call of this program before its own end.
 #[derive(Clone, Copy)]
 pub enum PoolStop {
     /// The first byte, from 1, that may not stand in the file of turns.
