@@ -69,13 +69,6 @@ fn same_numbers() -> Moves<'static>
     }
 }
 
-// A copy of a name.
-fn copy_name(alloc: Global, name: &[u8]) -> Result<Vec<u8>, NoMemory>
-    ensures { IfOk result (λ v. v.items ≡ name.now) }
-{
-    Ok(name.to_vec(alloc)?)
-}
-
 // The program that lists another in whose body no RETURN stands.
 fn copy_program(alloc: Global, program: &Program) -> Result<Program, NoMemory>
     requires body { 0 < length program.now.routines.items }
@@ -84,7 +77,7 @@ fn copy_program(alloc: Global, program: &Program) -> Result<Program, NoMemory>
 {
     let routines = &program.routines;
     Ok(Program {
-        name: copy_name(alloc, &program.name)?,
+        name: program.name.to_vec(alloc)?,
         globals: copy_globals(alloc, &program.globals)?,
         routines: copy_routines(alloc, &routines[0], &routines[1..], &program.globals)?,
     })
