@@ -33,7 +33,8 @@ use Rattle.alma_plan.specs.Undisturbed.{ShowsDue}
 use Rattle.alma_source.specs.Refusal.{IsProgramOf}
 use Rattle.alma_source.proofs.RefusalLemmas.{only_fault}
 use Rattle.alma_driver_outcome.specs.Commands.{AsksOf, GivesInput, ShowsRefusal, ShowsSize, CheckEnds, CompileEnds, TraceEnds, ProgramEnds}
-use Rattle.alma_driver_outcome.specs.Commands.{ListingEnds, ObjectEnds, ShowsMissing, ShowsCodeRun, ShowsSample, ShowsTrace, input_by, accepts, lists, runs, stores, traces}
+use Rattle.alma_driver_outcome.specs.Commands.{ListingEnds, ObjectEnds, ShowsMissing, ShowsCodeRun, ShowsSample, ShowsTrace, input_by}
+use Rattle.alma_driver_outcome.specs.Commands.{accepts, lists, runs, stores, traces}
 use Rattle.alma_driver_outcome.specs.Commands as shown
 use Rattle.alma_driver_outcome.specs.Headline.{ShowsEnd}
 use Rattle.alma_driver_outcome.specs.Outcome.{Due, silent, code_due, InputOutcome, unread, taken, past_input, ProgramOutcome, ran}
@@ -66,7 +67,8 @@ module _ (words : List (List ℕ)) (before after : Outside) (status : ℕ) where
   }
 
   -- a source that is checked
-  check_of : (source : List ℕ) (due : Due) → CameDue due → SourceOutcome source CheckOutcome due → CheckEnds words before after status source
+  check_of : (source : List ℕ) (due : Due) → CameDue due → SourceOutcome source CheckOutcome due
+      → CheckEnds words before after status source
   check_of source due h (stopped end r e) = shown.CheckEnds.refuses (refusal_of source due end e h r)
   check_of source due h (compiled p is e) = accepts p is (subst CameDue e h)
 
@@ -81,7 +83,8 @@ module _ (words : List (List ℕ)) (before after : Outside) (status : ℕ) where
       let spells = spells_stored p object due stored (made code bytes size is_code is_object fits e) (ap (λ (d : Due). d.stored) e) in
       stores p bytes is size spells (subst CameDue e h)
 
-  module _ (p : Program) (code : PlainCode) (is_code : IsCodeFor p code) (steps : ℕ) (watch : List (List ℕ)) (due : Due) (h : CameDue due) where
+  module _ (p : Program) (code : PlainCode) (is_code : IsCodeFor p code) (steps : ℕ) (watch : List (List ℕ)) (due : Due) (h : CameDue
+      due) where
     -- a trace of a run on this input
     trace_on : (input : List ℕ) → length input ≤ input_limit → due ≡ code_due code input steps (Traces watch)
         → ShowsTrace words before after status p input steps watch
@@ -182,7 +185,8 @@ module _ (words : List (List ℕ)) (before after : Outside) (status : ℕ) where
       let w = whole_call words (Trace name steps watch) source before after status a c u in
       trace_of source input steps watch w.due given w.shows w.outcome
 
-  pub exec_ends : (object bytes input : List ℕ) (steps : ℕ) (stats : Bool) (p : Program) → AsksOf words (Exec object steps stats) before bytes
+  pub exec_ends : (object bytes input : List ℕ) (steps : ℕ) (stats : Bool) (p : Program)
+      → AsksOf words (Exec object steps stats) before bytes
       → SpellsCodeOf p bytes → GivesInput before p input → Causes words before after status
       → IsUndisturbed before after status → ProgramEnds words before after status p input steps stats
   exec_ends object bytes input steps stats p a is given c u =
@@ -285,7 +289,13 @@ module _ (words : List (List ℕ)) (before after : Outside) (status : ℕ) where
   -- one that is missing is a read fault
   pub missing_told : Lacks words before.files.told → Causes words before after status → IsUndisturbed before after status
       → ShowsMissing words before after status
-  missing_told l c u = record { status_is = six; nothing = c.nothing six; told = by_end c.reported.0 c.reported.1 c.reported.2; files = c.files_stay (inl six) }
+  missing_told l c u = record {
+    status_is = six;
+    nothing = c.nothing six;
+    told = by_end c.reported.0 c.reported.1 c.reported.2;
+    files =
+        c.files_stay (inl six);
+  }
     where
       by_status : (status ≡ 6) ⊎ ((status ≡ 7) ⊎ (status ≡ 8)) → status ≡ 6
       by_status (inl e) = e

@@ -36,7 +36,8 @@ pub goes_whole : (P : Due → Type 0) (due : Due) (a b : SinkSide) (end : End) �
 goes_whole P due a b end o e none out = λ file. whole (shown_in file due) (due, o, refl) (ap (ending_in file) e) none out
 
 -- a write failed within it
-pub goes_cut : (P : Due → Type 0) (due : Due) (a b : SinkSide) → P due → due.stored ≡ None → FailsWithin a b due.out → Goes P a b (end_of_stop stop.Write)
+pub goes_cut : (P : Due → Type 0) (due : Due) (a b : SinkSide) → P due → due.stored ≡ None → FailsWithin a b due.out
+    → Goes P a b (end_of_stop stop.Write)
 goes_cut P due a b o none out = λ file. cut_short (shown_in file due) (due, o, refl) none refl out
 
 -- memory ran out within it

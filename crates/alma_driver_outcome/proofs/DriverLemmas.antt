@@ -409,11 +409,21 @@ pub serves_unfetched : (f g : FilesSide) (r : Request) (name : List ℕ) (fault 
     → IsFetched (f.told name) name (limit_of r) f.fetch_faults g.fetch_faults (Err fault)
     → Serves (IsReadBy r) (RequestOutcome f.told i.left r) f g i i a a (end_of_stop (fetch_stop fault))
 serves_unfetched f g r name fetch.Absent i a is s h = λ file.
-    frame.done Kept (shown_in file (silent (end_of_stop stop.Read))) (silent (end_of_stop stop.Read), absent name is h.0 refl, refl, refl) refl h.1 s refl
+    frame.done Kept (shown_in file (silent (end_of_stop stop.Read))) (
+      silent (end_of_stop stop.Read),
+      absent name is h.0 refl,
+      refl,
+      refl,
+    ) refl h.1 s refl
     (gains_none a)
 serves_unfetched f g r name fetch.Failed i a is s h = λ file. frame.unfetched name is refl (h.0, h.1) s refl (gains_none a)
 serves_unfetched f g r name fetch.TooLong i a is s h = λ file.
-    frame.done Kept (shown_in file (silent (end_of_stop stop.TooLong))) (silent (end_of_stop stop.TooLong), past_limit name is h.0 refl, refl, refl) refl h.1 s refl
+    frame.done Kept (shown_in file (silent (end_of_stop stop.TooLong))) (
+      silent (end_of_stop stop.TooLong),
+      past_limit name is h.0 refl,
+      refl,
+      refl,
+    ) refl h.1 s refl
     (gains_none a)
 serves_unfetched f g r name fetch.Memory i a is s h = λ file.
     frame.starved refl h s (inl refl) (gains_none a)
@@ -438,7 +448,12 @@ serves_alone f g r i j a b end is s =
 pub serves_bad : (words : List (List ℕ)) (f : FilesSide) (error : WordsError) (i : SourceSide) (a : SinkSide)
     → Reads words (Err error) → Serves (AskToRead words) (Outcome words f.told i.left) f f i i a a (words_end error)
 serves_bad ws f (words.Bad k) i a h = λ file.
-    frame.done Kept (shown_in file (silent (Refused (refusal.BadWord k)))) (silent (Refused (refusal.BadWord k)), bad_word k h refl, refl, refl) refl refl (files_same f) refl
+    frame.done Kept (shown_in file (silent (Refused (refusal.BadWord k)))) (
+      silent (Refused (refusal.BadWord k)),
+      bad_word k h refl,
+      refl,
+      refl,
+    ) refl refl (files_same f) refl
     (gains_none a)
 serves_bad ws f words.Memory i a h = λ file. course_starved program (AskToRead ws) (MayCome file (Outcome ws f.told i.left)) f i a
 

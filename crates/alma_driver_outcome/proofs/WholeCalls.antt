@@ -64,28 +64,29 @@ file_outcome told left r name bytes due reads has short (fetched n other is may 
     subst (λ (s : List ℕ). FileOutcome left r s due) (sym one) o
 file_outcome told left r name bytes due reads has short (unfetched is o) = cc (sym reads ∙ is)
 
-module _ (words : List (List ℕ)) (r : Request) (bytes : List ℕ) (before after : Outside) (status : ℕ) (a : AsksOf words r before bytes) where
-  -- the outcome of words that ask for it
-  words_outcome : (due : Due) → Outcome words before.files.told before.input.left due → FileOutcome before.input.left r bytes due
-  words_outcome due (bad_word k bad e) = absurd (bad.none (r, a.asks))
-  words_outcome due (asks other h o) =
-      let same : other ≡ r = one_request words other r h a.asks in
-      file_outcome before.files.told before.input.left r a.name bytes due a.reads a.told a.short
-      (subst (λ (q : Request). RequestOutcome before.files.told before.input.left q due) same o)
+module _ (words : List (List ℕ)) (r : Request) (bytes : List ℕ) (before after : Outside) (status : ℕ) (a : AsksOf words r before bytes)
+  where
+    -- the outcome of words that ask for it
+    words_outcome : (due : Due) → Outcome words before.files.told before.input.left due → FileOutcome before.input.left r bytes due
+    words_outcome due (bad_word k bad e) = absurd (bad.none (r, a.asks))
+    words_outcome due (asks other h o) =
+        let same : other ≡ r = one_request words other r h a.asks in
+        file_outcome before.files.told before.input.left r a.name bytes due a.reads a.told a.short
+        (subst (λ (q : Request). RequestOutcome before.files.told before.input.left q due) same o)
 
-  -- its file is not missing
-  not_lacking : Lacks words before.files.told → ⊥
-  not_lacking l =
-      let same : l.0 ≡ r = one_request words l.0 r l.2 a.asks in
-      let name : Some a.name ≡ Some l.1 = sym a.reads ∙ sym (ap read_by same) ∙ l.3 in
-      let one : a.name ≡ l.1 = cc name in
-      cc (sym a.told ∙ ap before.files.told one ∙ l.4)
+    -- its file is not missing
+    not_lacking : Lacks words before.files.told → ⊥
+    not_lacking l =
+        let same : l.0 ≡ r = one_request words l.0 r l.2 a.asks in
+        let name : Some a.name ≡ Some l.1 = sym a.reads ∙ sym (ap read_by same) ∙ l.3 in
+        let one : a.name ≡ l.1 = cc name in
+        cc (sym a.told ∙ ap before.files.told one ∙ l.4)
 
-  -- all that is due from a call came where nothing failed
-  pub whole_call : Causes words before after status → IsUndisturbed before after status → CameWhole words r bytes before after status
-  whole_call c u =
-      let w = whole_words words before after status not_lacking c u in
-      record { due = w.due; outcome = words_outcome w.due w.outcome; shows = w.shows; takes = w.takes }
+    -- all that is due from a call came where nothing failed
+    pub whole_call : Causes words before after status → IsUndisturbed before after status → CameWhole words r bytes before after status
+    whole_call c u =
+        let w = whole_words words before after status not_lacking c u in
+        record { due = w.due; outcome = words_outcome w.due w.outcome; shows = w.shows; takes = w.takes }
 
 -- what is due by its end and its bytes, where nothing is stored
 pub shows_end : (words : List (List ℕ)) (before after : Outside) (status : ℕ) (due : Due) (end : End) → due.end ≡ end → due.stored ≡ None

@@ -131,7 +131,8 @@ module _ (words : List (List ℕ)) (before after : Outside) (status : ℕ) where
     unsound : (fault : VerifyFault) → object_fault bytes ≡ None → code_fault (object_code bytes) ≡ Some fault
         → ShowsEnd words before after status (Refused (refusal.BadCode fault)) [] → ObjectEnds bytes input steps stats
     runs : object_fault bytes ≡ None → code_fault (object_code bytes) ≡ None
-        → ShowsCodeRun (object_code bytes) (input_by (code_reads (object_code bytes)) input) steps stats → ObjectEnds bytes input steps stats
+        → ShowsCodeRun (object_code bytes) (input_by (code_reads (object_code bytes)) input) steps stats
+        → ObjectEnds bytes input steps stats
 
   -- What a call shows that asks for a sample of so many lines: the line that sums up the run of its source on an empty input.
   pub record ShowsSample (lines : ℕ) : Type 0 where

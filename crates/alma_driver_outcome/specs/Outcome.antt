@@ -166,12 +166,14 @@ CheckOutcome p due = due ≡ silent (Succeeded None)
 pub data ListOutcome (bytes : List ℕ) (due : Due) : Type 0 where
   listed : object_fault bytes ≡ None → IsObject (object_code bytes) bytes → due ≡ due_of (Succeeded None) (list_text (object_code bytes))
       → ListOutcome bytes due
-  no_object : (fault : ObjectFault) → object_fault bytes ≡ Some fault → due ≡ silent (Refused (refusal.BadObject fault)) → ListOutcome bytes due
+  no_object : (fault : ObjectFault) → object_fault bytes ≡ Some fault → due ≡ silent (Refused (refusal.BadObject fault))
+      → ListOutcome bytes due
 
 -- What running code of a stranger for so many steps comes to: what it comes to in so many steps, or the first rule that it breaks.
 pub data CodeOutcome (left : Option (List ℕ)) (code : PlainCode) (steps : ℕ) (stats : Bool) (due : Due) : Type 0 where
   executed : code_fault code ≡ None → InputOutcome left code steps (Prints stats) due → CodeOutcome left code steps stats due
-  unsound : (fault : VerifyFault) → code_fault code ≡ Some fault → due ≡ silent (Refused (refusal.BadCode fault)) → CodeOutcome left code steps stats due
+  unsound : (fault : VerifyFault) → code_fault code ≡ Some fault → due ≡ silent (Refused (refusal.BadCode fault))
+      → CodeOutcome left code steps stats due
 
 -- what running the code of an object comes to; or the first fault of the format of bytes that are none
 pub data ExecOutcome (left : Option (List ℕ)) (bytes : List ℕ) (steps : ℕ) (stats : Bool) (due : Due) : Type 0 where
@@ -207,7 +209,8 @@ FileOutcome left (Sample lines) none due = SampleOutcome lines due
 pub data RequestOutcome (told : List ℕ → Told) (left : Option (List ℕ)) (request : Request) (due : Due) : Type 0 where
   absent : (name : List ℕ) → read_by request ≡ Some name → told name ≡ Missing → due ≡ silent (end_of_stop stop.Read)
       → RequestOutcome told left request due
-  past_limit : (name : List ℕ) → read_by request ≡ Some name → MayPass (told name) (limit_of request) → due ≡ silent (end_of_stop stop.TooLong)
+  past_limit : (name : List ℕ) → read_by request ≡ Some name → MayPass (told name) (limit_of request)
+      → due ≡ silent (end_of_stop stop.TooLong)
       → RequestOutcome told left request due
   fetched : (name bytes : List ℕ) → read_by request ≡ Some name → MayHave (told name) bytes → length bytes ≤ limit_of request
       → FileOutcome left request bytes due → RequestOutcome told left request due

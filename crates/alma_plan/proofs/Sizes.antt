@@ -29,5 +29,6 @@ module _ (program : List ℕ) (failed : Ending) (p : Program) (next : Plan Verdi
       subst (λ (b : Bool). Follows (sense program failed) program (unless_large b program p next) f f i i o o
       (tells program 11 (codes "too much code " ++ decimal n))) (sym (lt-ltb size_limit (size_of p) large))
       (course_ends (sense program failed) program (Tells (silent (too_much_code program (size_of p)))) f i o o _
-      (whole (silent (too_much_code program (size_of p))) refl (ap (λ k. tells program 11 (codes "too much code " ++ decimal k)) (sym is)) refl
+      (whole (silent (too_much_code program (size_of p))) refl (ap (λ k. tells program 11 (codes "too much code " ++ decimal k)) (sym
+      is)) refl
       (gains_none o)))

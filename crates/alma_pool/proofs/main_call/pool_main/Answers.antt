@@ -8,7 +8,12 @@ use Rattle.alma_pool.proofs.Plans.{own_plan}
 use Rattle.alma_pool.proofs.main_call.pool_main.Goals as goal
 
 pub returns-clause-answer : goal.returns-clause-answer
-returns-clause-answer g c = record { end = end_by pool_end c.perform-ended.result; course = c.perform-ended.ensures; reported = c.tell.ensures }
+returns-clause-answer g c = record {
+  end = end_by pool_end c.perform-ended.result;
+  course = c.perform-ended.ensures;
+  reported =
+      c.tell.ensures;
+}
 
 pub returns-clause-causes : goal.returns-clause-causes
 returns-clause-causes g c =

@@ -11,7 +11,8 @@ use Rattle.alma_pool.proofs.Showing.{goes_shown}
 use Rattle.alma_pool.proofs.play.play_in.Goals as goal
 
 pub show_all-requires : goal.show_all-requires
-show_all-requires g c = still_whole c.args.pool.now c.play_all.new.pool (turns_in c.args.turns.now) c.in_ok-play_all.ensures c.requires.whole
+show_all-requires g c = still_whole c.args.pool.now c.play_all.new.pool (turns_in c.args.turns.now) c.in_ok-play_all.ensures
+    c.requires.whole
 
 pub returns-in_err-play_all : goal.returns-in_err-play_all
 returns-in_err-play_all g c =

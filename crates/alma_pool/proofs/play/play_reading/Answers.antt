@@ -12,10 +12,12 @@ play_on-requires-clause-lawful g c = rw c.deref.ensures.value c.in_ok-bytes.ensu
 pub returns : goal.returns
 returns g c = λ files.
     course_read plain program (λ bytes. prints (pool_text 0 (codes_of c.args.verified.now) bytes (turns_in c.args.turns.now)))
-    (is_due (λ bytes. prints (pool_text 0 (codes_of c.args.verified.now) bytes (turns_in c.args.turns.now)))) c.in_ok-bytes.bytes.items files
+    (is_due (λ bytes. prints (pool_text 0 (codes_of c.args.verified.now) bytes (turns_in c.args.turns.now)))) c.in_ok-bytes.bytes.items
+    files
     (g.I.Source.side c.args.input.now) (g.I.Source.side c.read_all.new.source) (g.O.Sink.side c.args.out.now)
     (g.O.Sink.side c.play_on.new.out) _
-    c.in_ok-bytes.ensures.all.0 c.in_ok-bytes.ensures.all.1 c.in_ok-bytes.ensures.within c.in_ok-bytes.ensures.cause (rw c.deref.ensures.value at c.play_on.ensures)
+    c.in_ok-bytes.ensures.all.0 c.in_ok-bytes.ensures.all.1 c.in_ok-bytes.ensures.within c.in_ok-bytes.ensures.cause (rw
+    c.deref.ensures.value at c.play_on.ensures)
 
 pub returns-in_err-bytes : goal.returns-in_err-bytes
 returns-in_err-bytes g c = λ files.

@@ -25,6 +25,7 @@ returns g t c =
     let got = c.in_ok-bytes.ensures.answer in
     let more = c.in_ok-push.ensures.items in
     rw c.in-Some.ensures (course_fetched plain program c.in-Some.name.now object_limit
-    (λ bytes. objects_plan c.args.turns.now (all_bytes c.args.got.now.items ++ bytes ∷ []) (texts c.in-Some.rest.now)) c.in_ok-bytes.bytes.items
+    (λ bytes. objects_plan c.args.turns.now (all_bytes c.args.got.now.items ++ bytes ∷ []) (texts c.in-Some.rest.now))
+    c.in_ok-bytes.bytes.items
     _ _ _ _ _ _ _ _ (c.in_ok-bytes.ensures.same, c.in_ok-bytes.ensures.store_count) got.2 got.0 got.1
     (rw (more, map-append (λ (file : Vec ℕ). file.items) c.args.got.now.items (c.in_ok-bytes.bytes ∷ [])) at c.serve_objects.ensures))
