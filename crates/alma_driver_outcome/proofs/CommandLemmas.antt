@@ -1,22 +1,25 @@
 -- Calls that check, compile or trace a source, or list or run an object, show what is due from it.
 use Rattle.std.proofs.Common.{◌≡◌, ◌<◌, ◌≤◌, ◌∙◌, ℕ, List, [], length, ap, inl, inr, sym, subst, arith}
 use Rattle.std.specs.Prelude.{Bool, true, Option, None, Some, codes, ◌⊎◌}
-use Rattle.alma_base.specs.Limits.{input_limit}
+use Rattle.alma_base.specs.Limits.{input_limit, size_limit}
 use Rattle.alma_io.specs.Files.{Has, MayHave, Told}
 use Rattle.alma_io.specs.Outside.{Gains, Outside, IsUndisturbed, MayBeLeft, StoredFile}
 use Rattle.alma_io.specs.Whole.{MayHaveMore}
 use Rattle.alma_ir.specs.Tree.{Program}
 use Rattle.alma_code.specs.Plain.{PlainCode}
 use Rattle.alma_code.specs.Reads.{code_reads}
+use Rattle.alma_code.specs.Rules.{code_fault}
+use Rattle.alma_object.specs.Walk.{object_fault}
 use Rattle.alma_code.specs.TraceText.{trace_text}
 use Rattle.alma_verify.specs.Bytes.{object_code}
 use Rattle.alma_lower.specs.CodeFor.{IsCodeFor}
 use Rattle.alma_lower_implements.specs.Implements.{state_after, line_in}
-use Rattle.alma_run_laws.specs.Shown.{shown_end}
+use Rattle.alma_lower_sound.specs.Reads.{program_reads}
+use Rattle.alma_run_laws.specs.Shown.{size_of, shown_end}
 use Rattle.alma_run_laws.specs.Stored.{SpellsCodeOf}
 use Rattle.alma_run_laws.proofs.Meant.{code_shows}
 use Rattle.alma_run_laws.proofs.Spelled.{spelled_sound}
-use Rattle.alma_driver_words.specs.Words.{Request, Check, Compile, Exec, Listing, Sample, Trace, Asks, IsBadWord, IsRequest, file_of}
+use Rattle.alma_driver_words.specs.Words.{Request, Run, Check, Compile, Exec, Listing, Sample, Trace, Asks, IsBadWord, IsRequest, file_of}
 use Rattle.alma_driver_words.proofs.BadWords.{one_bad_word}
 use Rattle.alma_driver_words.proofs.WordLemmas.{one_request}
 use Rattle.alma_plan.specs.declared.refusal.Refusal.TheVariants as refusal
@@ -31,10 +34,10 @@ use Rattle.alma_plan.specs.Causes.{MayEnd, unread_end, unwritten_end, starved_en
 use Rattle.alma_driver_outcome.specs.declared.end.End.TheVariants.{Refused}
 use Rattle.alma_plan.specs.Undisturbed.{ShowsDue}
 use Rattle.alma_source.specs.Refusal.{IsProgramOf}
-use Rattle.alma_source.proofs.RefusalLemmas.{only_fault}
+use Rattle.alma_source.proofs.RefusalLemmas.{one_program, only_fault, refused_no_program}
 use Rattle.alma_driver_outcome.specs.Commands.{AsksOf, GivesInput, ShowsRefusal, ShowsSize, CheckEnds, CompileEnds, TraceEnds, ProgramEnds}
 use Rattle.alma_driver_outcome.specs.Commands.{ListingEnds, ObjectEnds, ShowsMissing, ShowsCodeRun, ShowsSample, ShowsTrace, input_by}
-use Rattle.alma_driver_outcome.specs.Commands.{accepts, lists, runs, stores, traces}
+use Rattle.alma_driver_outcome.specs.Commands.{PassesInput, accepts, lists, runs, stores, traces}
 use Rattle.alma_driver_outcome.specs.Commands as shown
 use Rattle.alma_driver_outcome.specs.Headline.{ShowsEnd}
 use Rattle.alma_driver_outcome.specs.Outcome.{Due, silent, code_due, InputOutcome, unread, taken, past_input, ProgramOutcome, ran}
@@ -44,12 +47,12 @@ use Rattle.alma_driver_outcome.specs.Outcome.{RequestOutcome, absent, past_limit
 use Rattle.alma_driver_outcome.specs.Outcome.{CompileOutcome, made, past_size, ExecOutcome, opened, unopened, executed, unsound}
 use Rattle.alma_driver_outcome.specs.Parts.{shown_in}
 use Rattle.alma_driver_outcome.specs.Scope.{Causes, scope_of}
-use Rattle.alma_driver_outcome.specs.Showing.{Prints, Traces}
+use Rattle.alma_driver_outcome.specs.Showing.{Showing, Prints, Traces}
 use Rattle.alma_driver_outcome.specs.declared.end.End.{End}
 use Rattle.alma_driver_outcome.proofs.HeadlineLemmas.{program_ends}
 use Rattle.alma_driver_outcome.proofs.RunLemmas.{told_is}
 use Rattle.alma_driver_outcome.proofs.StoredLemmas.{spells_stored}
-use Rattle.alma_driver_outcome.proofs.WholeCalls.{Came, whole_call, whole_words}
+use Rattle.alma_driver_outcome.proofs.WholeCalls.{Came, CameWhole, whole_call, whole_words}
 
 module _ (words : List (List ℕ)) (before after : Outside) (status : ℕ) where
   -- what is due came
@@ -317,3 +320,57 @@ module _ (words : List (List ℕ)) (before after : Outside) (status : ℕ) where
           → Gains before.err after.err (says (codes "read fault"))
       by_end end m (said s g) = subst (Gains before.err after.err) (text_is end m (sym s ∙ six)) g
       by_end end m (unsaid s f) = absurd (omega (arith, s, six))
+
+  -- ---- an input that is too long
+
+  -- code that reads does not run on one
+  input_refused : (code : PlainCode) (input : List ℕ) (steps : ℕ) (showing : Showing) (due : Due) → code_reads code ≡ true
+      → PassesInput before input → CameDue due → InputOutcome before.input.left code steps showing due
+      → ShowsEnd words before after status (end_of_stop stop.TooLong) []
+  input_refused code input steps showing due reads past h (unread quiet e) = absurd (cc (quiet, reads))
+  input_refused code input steps showing due reads past h (taken other is l short e) =
+      let same : input ≡ other = subst (λ (o : Option (List ℕ)). MayBeLeft o other) past.left l in
+      absurd (omega (arith, past.long, short, ap (λ (b : List ℕ). length b) same))
+  input_refused code input steps showing due reads past h (past_input is more e) = subst CameDue e h
+
+  -- nor does a program that reads, in a run or a trace of its source
+  source_input_refused : (source input : List ℕ) (p : Program) (steps : ℕ) (showing : Showing) (due : Due) → IsProgramOf source p
+      → size_of p ≤ size_limit → program_reads p ≡ true → PassesInput before input → CameDue due
+      → SourceOutcome source (λ q. ProgramOutcome before.input.left q steps showing) due
+      → ShowsEnd words before after status (end_of_stop stop.TooLong) []
+  source_input_refused source input p steps showing due is small reads past h (stopped end (refused fault offset r e) d) =
+      absurd (refused_no_program source fault offset p r is)
+  source_input_refused source input p steps showing due is small reads past h (compiled q isq (too_much_code size e)) =
+      absurd (omega (arith, size, small, ap size_of (one_program source q p isq is)))
+  source_input_refused source input p steps showing due is small reads past h (compiled q isq (ran code size is_code o)) =
+      input_refused code input steps showing due (is_code.reads ∙ ap program_reads (one_program source q p isq is) ∙ reads) past h o
+
+  pub run_input_refused : (name source input : List ℕ) (steps : ℕ) (stats : Bool) (p : Program)
+      → AsksOf words (Run name steps stats) before source → IsProgramOf source p → size_of p ≤ size_limit → program_reads p ≡ true
+      → PassesInput before input → Causes words before after status → IsUndisturbed before after status
+      → ShowsEnd words before after status (end_of_stop stop.TooLong) []
+  run_input_refused name source input steps stats p a is small reads past c u =
+      let w = whole_call words (Run name steps stats) source before after status a c u in
+      source_input_refused source input p steps (Prints stats) w.due is small reads past w.shows w.outcome
+
+  pub trace_input_refused : (name source input : List ℕ) (steps : ℕ) (watch : List (List ℕ)) (p : Program)
+      → AsksOf words (Trace name steps watch) before source → IsProgramOf source p → size_of p ≤ size_limit → program_reads p ≡ true
+      → PassesInput before input → Causes words before after status → IsUndisturbed before after status
+      → ShowsEnd words before after status (end_of_stop stop.TooLong) []
+  trace_input_refused name source input steps watch p a is small reads past c u =
+      let w = whole_call words (Trace name steps watch) source before after status a c u in
+      source_input_refused source input p steps (Traces watch) w.due is small reads past w.shows w.outcome
+
+  pub exec_input_refused : (object bytes input : List ℕ) (steps : ℕ) (stats : Bool) → AsksOf words (Exec object steps stats) before bytes
+      → object_fault bytes ≡ None → code_fault (object_code bytes) ≡ None → code_reads (object_code bytes) ≡ true
+      → PassesInput before input → Causes words before after status → IsUndisturbed before after status
+      → ShowsEnd words before after status (end_of_stop stop.TooLong) []
+  exec_input_refused object bytes input steps stats a clean sound reads past c u = by w.outcome
+    where
+      w : CameWhole words (Exec object steps stats) bytes before after status
+      w = whole_call words (Exec object steps stats) bytes before after status a c u
+
+      by : ExecOutcome before.input.left bytes steps stats w.due → ShowsEnd words before after status (end_of_stop stop.TooLong) []
+      by (opened is (executed s o)) = input_refused (object_code bytes) input steps (Prints stats) w.due reads past w.shows o
+      by (opened is (unsound fault f e)) = absurd (cc (sound, f))
+      by (unopened fault f e) = absurd (cc (clean, f))

@@ -50,6 +50,11 @@ pub record GivesInput (before : Outside) (p : Program) (input : List ℕ) : Type
   pub left : program_reads p ≡ true → before.input.left ≡ Some input
   pub short : length input ≤ input_limit
 
+-- the input that is left is past its length
+pub record PassesInput (before : Outside) (input : List ℕ) : Type 0 where
+  pub left : before.input.left ≡ Some input
+  pub long : input_limit < length input
+
 -- the input on which a program runs, by whether it reads: that, or an empty one
 abbrev pub input_by : (reads : Bool) → (input : List ℕ) → List ℕ
 input_by true input = input

@@ -1,15 +1,17 @@
 //! Laws of the definitions that the contracts cite: functions without work, whose contracts are the
 //! laws.
-ghost use Rattle.std.specs.Prelude.{◌≡◌, ◌<◌, ◌≤◌, ◌+◌, ◌*◌, Bool, true, List, ℕ, [], length, Option, Some, map};
+ghost use Rattle.std.specs.Prelude.{◌≡◌, ◌<◌, ◌≤◌, ◌+◌, ◌*◌, Bool, true, List, ℕ, [], length, None, Option, Some, map};
 ghost use Rattle.alma_base.specs.Limits.{input_limit, size_limit};
 ghost use Rattle.alma_code.specs.Reads.{code_reads};
+ghost use Rattle.alma_code.specs.Rules.{code_fault};
+ghost use Rattle.alma_object.specs.Walk.{object_fault};
 ghost use Rattle.alma_verify.specs.Bytes.{object_code};
 ghost use Rattle.alma_source.specs.Refusal.{IsProgramOf};
 ghost use Rattle.alma_io.specs.Outside.{StoredFile, IsUndisturbed, Outside};
 ghost use Rattle.alma_driver_outcome.specs.Outcome.{Due, ProgramOutcome, CompileOutcome, SourceOutcome, Lacks, Meant, TraceMeant, ListOutcome, ExecOutcome};
 ghost use Rattle.alma_driver_outcome.specs.Scope.{Causes};
-ghost use Rattle.alma_driver_outcome.specs.Commands.{AsksOf, CheckEnds, CompileEnds, GivesInput, ListingEnds, ObjectEnds, ProgramEnds, ShowsMissing, ShowsSample, TraceEnds};
-ghost use Rattle.alma_driver_words.specs.Words.{Asks, Request, Check, Compile, Exec, IsBadWord, Listing, Sample, Trace};
+ghost use Rattle.alma_driver_outcome.specs.Commands.{AsksOf, CheckEnds, CompileEnds, GivesInput, ListingEnds, ObjectEnds, PassesInput, ProgramEnds, ShowsMissing, ShowsSample, TraceEnds};
+ghost use Rattle.alma_driver_words.specs.Words.{Asks, Request, Run, Check, Compile, Exec, IsBadWord, Listing, Sample, Trace};
 ghost use Rattle.alma_driver_outcome.specs.Ends.{end_of_stop};
 ghost use Rattle.alma_driver_outcome.specs.Words.{limit_of, IsReadBy};
 ghost use Rattle.alma_io.specs.Files.{Has};
@@ -198,6 +200,30 @@ pub fn files_that_do_not_serve_are_told()
     ensures long { (words : List (List ℕ)) (before after : Outside) (status : ℕ)
         (request : Request) (name bytes : List ℕ) → Asks words request → IsReadBy request name
         → before.files.told name ≡ Has bytes → limit_of request < length bytes
+        → Causes words before after status → IsUndisturbed before after status
+        → ShowsEnd words before after status (end_of_stop TooLong) [] }
+{}
+
+/// An input past its length is told as too long where it is read, and nothing runs: in a run or a
+/// trace of a source, and in a run of bytes, where memory is found and nothing fails outside.
+pub fn an_input_past_its_length_is_told()
+    ensures run { (words : List (List ℕ)) (before after : Outside) (status : ℕ)
+        (name source input : List ℕ) (steps : ℕ) (stats : Bool) (p : Program)
+        → AsksOf words (Run name steps stats) before source → IsProgramOf source p
+        → size_of p ≤ size_limit → program_reads p ≡ true → PassesInput before input
+        → Causes words before after status → IsUndisturbed before after status
+        → ShowsEnd words before after status (end_of_stop TooLong) [] }
+    ensures trace { (words : List (List ℕ)) (before after : Outside) (status : ℕ)
+        (name source input : List ℕ) (steps : ℕ) (watch : List (List ℕ)) (p : Program)
+        → AsksOf words (Trace name steps watch) before source → IsProgramOf source p
+        → size_of p ≤ size_limit → program_reads p ≡ true → PassesInput before input
+        → Causes words before after status → IsUndisturbed before after status
+        → ShowsEnd words before after status (end_of_stop TooLong) [] }
+    ensures exec { (words : List (List ℕ)) (before after : Outside) (status : ℕ)
+        (object bytes input : List ℕ) (steps : ℕ) (stats : Bool)
+        → AsksOf words (Exec object steps stats) before bytes → object_fault bytes ≡ None
+        → code_fault (object_code bytes) ≡ None → code_reads (object_code bytes) ≡ true
+        → PassesInput before input
         → Causes words before after status → IsUndisturbed before after status
         → ShowsEnd words before after status (end_of_stop TooLong) [] }
 {}
